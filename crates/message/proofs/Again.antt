@@ -30,14 +30,14 @@ went-on true x f e = let z : _≡_ {A = ℕ} 0 1 = cc in absurd (omega arith)
 went-on false x f e = (refl, e)
 
 -- what the check says of the first three octets and the rest
-record Checked (k p : ℕ) (o : List ℕ) : Type 0 where
-  long : 3 ≤ length o
-  kind : getD o 0 0 ≡ k
-  protocol : getD o 1 0 ≡ p
-  map : getD o 2 0 ≡ mapOf k
-  lengths : shaped k o ≡ Ok tt
+pub record Checked (k p : ℕ) (o : List ℕ) : Type 0 where
+  pub long : 3 ≤ length o
+  pub kind : getD o 0 0 ≡ k
+  pub protocol : getD o 1 0 ≡ p
+  pub map : getD o 2 0 ≡ mapOf k
+  pub lengths : shaped k o ≡ Ok tt
 
-was-checked : (k p : ℕ) (o : List ℕ) → checked k p o ≡ Ok tt → Checked k p o
+pub was-checked : (k p : ℕ) (o : List ℕ) → checked k p o ≡ Ok tt → Checked k p o
 was-checked k p o e =
     let a = went-on (ltb (length o) 3) _ _ e in
     let b = passed (known k && eqb (getD o 0 0) k) _ _ (a .1) in

@@ -4,13 +4,14 @@
 //! fields whose bit stands in the map, lowest bit first: bit 0 a label of 25 octets, bit 1 a nonce of 12, bit 2 a
 //! number of 3, bit 3 a length of 3 and as many data octets, bit 4 a tag of 12. Numbers have their highest octet first.
 ghost use mathlib.Core.Path.{_≡_};
+ghost use mathlib.Core.Bool.{false};
 ghost use mathlib.Core.List.{List};
 ghost use Prim.Native.Nat.{ℕ, _+_, _≤_};
 ghost use lib.ListN.{length, take, drop};
 ghost use Rattle.std.specs.Options.{Cases as BySome};
 ghost use Rattle.std.specs.Results.{Cases};
 ghost use Rattle.std.specs.declared.result.Result.the-variants.{Ok, Err};
-ghost use Rattle.message.specs.Layout.{kindNumber, kindName, ofKind, mapOf, numberAt};
+ghost use Rattle.message.specs.Layout.{known, kindNumber, kindName, ofKind, mapOf, numberAt};
 ghost use Rattle.message.specs.Reading.{refused, shaped, checked, viewed, Sized, fieldsAt};
 ghost use Rattle.message.specs.Writing.{octetsOf, act, verify, enc, headOctets, wrote, wroteEnc, after};
 ghost use Rattle.message.specs.Laws.{Act-back, Verify-back, Enc-back, Written-again, By-the-map};
@@ -67,6 +68,7 @@ impl Kind {
     /// The kind of this number, or none where it is outside 1 to 5.
     pub fn from_number(number: u32) -> Option<Kind>
         ensures value { λ r. ⌜ r ≡ ofKind number ⌝ }
+        ensures back { λ r. ⌜ BySome r (known number ≡ false) (λ k. kindNumber k ≡ number) ⌝ }
     {
         match number {
             1 => Some(Kind::Act(Direction::Request)),

@@ -26,7 +26,7 @@ loop-i-again c =
     let w = c .args .word .now in
     let i = c .loop-i .i in
     let m : pairs w (i + 1) ≡ pairs w i ++ (hexValue (getD w (2 * i) 0) * 16 + hexValue (getD w (2 * i + 1) 0)) ∷ [] =
-        map-counting-more (λ k. hexValue (getD w (2 * k) 0) * 16 + hexValue (getD w (2 * k + 1) 0)) 0 i i (omega arith) in
+    map-counting-more (λ k. hexValue (getD w (2 * k) 0) * 16 + hexValue (getD w (2 * k + 1) 0)) 0 i i (omega arith) in
     let p = c .in-Continue-push .ensures tt .items in
     let h = c .hex-value .ensures .value in
     let l = c .hex-value-in-loop-i .ensures .value in
