@@ -246,10 +246,10 @@ pub impl fmt::Display for Fault as FaultDisplay {
     ghost shown = { λ f. Some (sentence f) };
 
     fn fmt<W: fmt::Write>(&self, f: &mut fmt::Formatter<W>) -> fmt::Result {
-        let number = self.number();
-        let layer = self.layer.name();
-        let place = self.place();
-        let words = self.layer.words();
-        write!(f, "refusal {number}, {layer} layer, place {place}: {words}")
+        let Fault { layer, place } = *self;
+        let number = layer.number();
+        let name = layer.name();
+        let words = layer.words();
+        write!(f, "refusal {number}, {name} layer, place {place}: {words}")
     }
 }

@@ -5,28 +5,15 @@
 use capture::Captured;
 use capture::Line;
 use capture::Problem;
-use fault::Fault;
 use fault::FaultDisplay;
 use message::Kind;
 use message::Message;
 use std::env;
 use std::error::AnyError;
-use std::fmt;
 use std::fs;
 use std::io::Read;
-
-/// Octets, shown in hexadecimal.
-#[derive(Clone, Copy)]
-struct Hex<'a>(&'a [u8]);
-
-impl fmt::Display for Hex<'_> as HexDisplay {
-    fn fmt<W: fmt::Write>(&self, f: &mut fmt::Formatter<W>) -> fmt::Result {
-        for b in self.0 {
-            write!(f, "{b:02x}")?;
-        }
-        Ok(())
-    }
-}
+use text::Hex;
+use text::HexDisplay;
 
 /// How many lines came to what.
 #[derive(Clone, Copy)]

@@ -15,10 +15,10 @@ put-next w s o a k h =
     simp (e, f, drop-drop, append-assoc)
 
 -- w, s and t, each as the copy left it, in place of the first e octets of o
-pub laid : (w s t o : List ℕ) {xs ys zs : List ℕ} (a k b j e : ℕ) → xs ≡ w → ys ≡ s → zs ≡ t
-    → length w ≡ a → length s ≡ k → b ≡ a + k → e ≡ b + j
-    → putMid b j (putMid a k (xs ++ drop a o) ys) zs ≡ (w ++ (s ++ t)) ++ drop e o
-laid w s t o a k b j e p q r l m f g =
+pub laid : (w s t o : List ℕ) {xs ys zs : List ℕ} (a i k b j e : ℕ) → xs ≡ w → ys ≡ s → zs ≡ t
+    → length w ≡ a → i ≡ a → length s ≡ k → b ≡ a + k → e ≡ b + j
+    → putMid b j (putMid a k (xs ++ drop i o) ys) zs ≡ (w ++ (s ++ t)) ++ drop e o
+laid w s t o a i k b j e p q r l u m f g =
     let n : length (w ++ s) ≡ a + k = omega (arith, length-append w s) in
-    simp (p, q, r, f, g)
+    simp (p, q, r, u, f, g)
     (ap (λ v. putMid (a + k) j v t) (put-next w s o a k l) ∙ put-next (w ++ s) t o (a + k) j n ∙ simp append-assoc)

@@ -5,7 +5,7 @@
 //! number of 3, bit 3 a length of 3 and as many data octets, bit 4 a tag of 12. Numbers have their highest octet first.
 ghost use mathlib.Core.Path.{_≡_};
 ghost use mathlib.Core.Bool.{false};
-ghost use mathlib.Core.List.{List};
+ghost use mathlib.Core.List.{List, _++_};
 ghost use Prim.Native.Nat.{ℕ, _+_, _≤_};
 ghost use lib.ListN.{length, take, drop};
 ghost use Rattle.std.specs.Options.{Cases as BySome};
@@ -214,6 +214,18 @@ pub fn read<'a>(awaited: Kind, pid: u8, octets: &'a [u8]) -> Result<Message<'a>,
     }
 }
 
+/// Writes three parts of `n` octets together, one after the other, at the start of the output.
+fn put(output: &mut [u8], n: usize, head: &[u8], middle: &[u8], last: &[u8])
+    requires { ⌜ length (now head) + length (now middle) + length (now last) ≡ n ⌝ ∗ ⌜ n ≤ length (now output) ⌝ }
+    ensures output { λ _. ⌜ now (output .exit) ≡ (now (head .entry) ++ (now (middle .entry) ++ now (last .entry))) ++ drop n (now (output .entry)) ⌝ }
+{
+    let h = head.len();
+    let m = h + middle.len();
+    output[0..h].copy_from_slice(head);
+    output[h..m].copy_from_slice(middle);
+    output[m..n].copy_from_slice(last);
+}
+
 /// Writes an `ACT_REQ` or `ACT_RES` of 40 octets at the start of the output and answers 40; refuses a shorter output with 1.
 pub fn write_act(
     direction: Direction,
@@ -228,9 +240,8 @@ pub fn write_act(
     if output.len() < 40 {
         return Err(Fault::host(HostCause::Size));
     }
-    output[0..3].copy_from_slice(&[Kind::Act(direction).number(), pid, 3]);
-    output[3..28].copy_from_slice(label);
-    output[28..40].copy_from_slice(nonce);
+    let head = [Kind::Act(direction).number(), pid, 3];
+    put(output, 40, &head, label, nonce);
     Ok(40)
 }
 
@@ -247,8 +258,8 @@ pub fn write_verify(
     if output.len() < 15 {
         return Err(Fault::host(HostCause::Size));
     }
-    output[0..3].copy_from_slice(&[Kind::Verify(direction).number(), pid, 16]);
-    output[3..15].copy_from_slice(tag);
+    let head = [Kind::Verify(direction).number(), pid, 16];
+    put(output, 15, &head, tag, &[]);
     Ok(15)
 }
 
@@ -282,17 +293,16 @@ pub fn write_enc(
     ensures value { λ r. ⌜ r ≡ wroteEnc (now («data» .entry)) (now (output .entry)) ⌝ }
     ensures output { λ r. ⌜ now (output .exit) ≡ after r (octetsOf 5 pid (enc (number .value) (now («data» .entry)) (now (tag .entry)))) (now (output .entry)) ⌝ }
 {
-    let n = data.len();
-    if n > PAYLOAD {
+    if data.len() > PAYLOAD {
         return Err(Fault::host(HostCause::PayloadLength));
     }
-    if output.len() < 21 + n {
+    let n = 21 + data.len();
+    if output.len() < n {
         return Err(Fault::host(HostCause::Size));
     }
-    output[0..9].copy_from_slice(&enc_head(pid, number, n as u16));
-    output[9..9 + n].copy_from_slice(data);
-    output[9 + n..21 + n].copy_from_slice(tag);
-    Ok(21 + n)
+    let head = enc_head(pid, number, data.len() as u16);
+    put(output, n, &head, data, tag);
+    Ok(n)
 }
 
 /// What is written reads back equal; what is read is written again octet for octet; each kind's octets follow its map.

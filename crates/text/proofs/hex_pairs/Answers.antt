@@ -6,9 +6,9 @@ use native.Mathlib.Omega.{arith}
 use lib.ListN.{length, getD}
 use borrow.Author.Needs.{needs}
 use Rattle.std.proofs.shelf.Counted.{map-counting-more}
-use Rattle.capture.specs.Lines.{hexValue, pairs}
-use Rattle.capture.proofs.Digits.{hex-at}
-use Rattle.capture.proofs.hex_pairs.Needs as need
+use Rattle.text.specs.Words.{hexValue, pairs}
+use Rattle.text.proofs.Digits.{hex-at}
+use Rattle.text.proofs.hex_pairs.Needs as need
 
 pub mul-hex-value : need.mul-hex-value
 mul-hex-value c =

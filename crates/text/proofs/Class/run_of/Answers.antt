@@ -2,8 +2,8 @@
 use mathlib.Core.Path.{_≡_, sym}
 use native.Mathlib.Omega.{arith}
 use Rattle.std.proofs.shelf.Sums.{leading-drop-yes, leading-drop-no, leading-drop-all}
-use Rattle.capture.specs.Lines.{belongs}
-use Rattle.capture.proofs.Class.run_of.Needs as need
+use Rattle.text.specs.Words.{belongs}
+use Rattle.text.proofs.Class.run_of.Needs as need
 
 pub returns-then-not-has : need.returns-then-not-has
 returns-then-not-has c =

@@ -11,7 +11,7 @@ use lib.ListN.{length, getD}
 use Rattle.std.specs.shelf.Lists.{leading}
 use Rattle.std.proofs.shelf.Tests.{leb-true, and-parts}
 use Rattle.std.proofs.shelf.Ways.{tells}
-use Rattle.capture.specs.Lines.{digit, hexDigit, hexValue}
+use Rattle.text.specs.Words.{digit, hexDigit, hexValue}
 
 -- where the whole list passes, each element does
 pub each : (p : ℕ → Bool) (xs : List ℕ) → leading p xs ≡ length xs → (i : ℕ) → i < length xs → p (getD xs i 0) ≡ true

@@ -7,9 +7,9 @@ use lib.ListN.{length, take}
 use borrow.Author.Needs.{needs}
 use Rattle.std.proofs.shelf.Lists.{take-all}
 use Rattle.std.proofs.shelf.Sums.{folded-more}
-use Rattle.capture.specs.Lines.{decimalValue}
-use Rattle.capture.proofs.Digits.{digit-at, room}
-use Rattle.capture.proofs.number.Needs as need
+use Rattle.text.specs.Words.{decimalValue}
+use Rattle.text.proofs.Digits.{digit-at, room}
+use Rattle.text.proofs.number.Needs as need
 
 pub mul-value : need.mul-value
 mul-value c = let r = room (c .loop-b .value) (c .loop-b .b-index) 0 (c .loop-b .inv .1) (omega arith) (omega arith) in omega arith

@@ -1,7 +1,7 @@
 use mathlib.Core.Path.{_≡_}
 use Rattle.std.specs.Of.Vec.{vec-items}
-use Rattle.capture.specs.Lines.{pairs}
-use Rattle.capture.proofs.hex_pairs.Given as given
+use Rattle.text.specs.Words.{pairs}
+use Rattle.text.proofs.hex_pairs.Given as given
 
 -- the octets of the pairs so far
 abbrev pub Inv-loop-i : given.InvT-loop-i
