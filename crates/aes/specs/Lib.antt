@@ -1,0 +1,5 @@
+pub mod Field
+pub mod Sbox
+pub mod Schedule
+pub mod Rounds
+pub mod View
