@@ -21,6 +21,9 @@ extern "C" {
 #endif
 
 /* sizes in octets */
+#define MULGAWO_KEY 16
+#define MULGAWO_COUNTER 16
+#define MULGAWO_WORKSPACE 256    /* at least; a larger one is used only so far */
 #define MULGAWO_LABEL 25
 #define MULGAWO_NONCE 12
 #define MULGAWO_TAG 12
@@ -43,6 +46,7 @@ extern "C" {
 
 /* numbers of refusals; 0 is accepted */
 #define MULGAWO_OK 0
+#define MULGAWO_WRONG_SIZE 1     /* of a key, a counter, a workspace or an output */
 #define MULGAWO_WRONG_LENGTH 6
 #define MULGAWO_OTHER_KIND 7
 #define MULGAWO_OTHER_PID 8
@@ -62,6 +66,26 @@ struct mulgawo_verdict {
  * data length over 4,096 (10, place 6), wrong full length (6, place the length).
  */
 struct mulgawo_verdict mulgawo_check(uint32_t awaited, uint32_t pid, const uint8_t *octets, size_t octets_len);
+
+/*
+ * The tag of the data under AES-128: the first 12 octets of its AES-XCBC result, as in RFC 3566, written at the start of the
+ * output. Answers 0, or 1 where the key has not 16 octets, the workspace is under 256 or the output under 12.
+ *
+ * The first 256 octets of the workspace are zero afterwards, accepted or refused; a shorter workspace is untouched. What stands
+ * after them, and in the output after the tag, stays; a refused call leaves the whole output as it was.
+ */
+uint32_t mulgawo_tag(const uint8_t *key, size_t key_len, const uint8_t *data, size_t data_len, uint8_t *workspace,
+                     size_t workspace_len, uint8_t *output, size_t output_len);
+
+/*
+ * The data XORed with the keystream of AES-128 in counter mode, from the counter of 16 octets on (highest octet first, modulo
+ * 2^128), written at the start of the output; the counter is only read. A next call goes on from the counter plus one for each
+ * begun 16 octets. Answers 0, or 1 where key or counter has not 16 octets, the workspace is under 256 or the output under the
+ * data. Workspace and output as above.
+ */
+uint32_t mulgawo_keystream(const uint8_t *key, size_t key_len, const uint8_t *counter, size_t counter_len,
+                           const uint8_t *data, size_t data_len, uint8_t *workspace, size_t workspace_len,
+                           uint8_t *output, size_t output_len);
 
 #ifdef __cplusplus
 }

@@ -1,0 +1,6 @@
+mod Agrees
+mod Blocks
+mod Joins
+pub mod Keys
+mod Schedules
+mod Stream

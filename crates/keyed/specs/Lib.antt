@@ -1,0 +1,5 @@
+pub mod Derivation
+pub mod Keystream
+pub mod Parts
+pub mod Strings
+pub mod Xcbc
