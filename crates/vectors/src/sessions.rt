@@ -12,6 +12,13 @@ use keyed::Identities;
 use keyed::Labels;
 use keyed::Nonces;
 use keyed::SessionKeys;
+use lookup::KeyLookup;
+use lookup::Reply;
+use lookup::ReplyPartialEq;
+use lookup::bench::BenchKey;
+use lookup::bench::BenchLookup;
+use lookup::chip::ChipLookup;
+use lookup::chip::ChipRecord;
 use speck::Speck;
 use speck::SpeckCipher;
 use std::error::AnyError;
@@ -30,6 +37,60 @@ pub struct Session {
     payload: Vec<u8>,
     packets: u32,
     packet_agrees: bool,
+    fob_key: OwnKey,
+    mixer_key: OwnKey,
+}
+
+/// What an own key is made of: a private number, or the octets of a record.
+#[derive(Drop)]
+enum OwnKey {
+    None,
+    Bench(u32),
+    Chip(Vec<u8>),
+}
+
+impl OwnKey {
+    /// Whether the key has this label, and gives the peer's label this secret.
+    fn gives(&self, own: &[u8; 25], peer: &[u8; 25], secret: &[u8; 24]) -> bool {
+        match self {
+            OwnKey::None => false,
+            OwnKey::Bench(d) => match BenchKey::new(*d) {
+                Ok(key) => looks_up(&key, own, peer, secret),
+                Err(_) => false,
+            },
+            OwnKey::Chip(octets) => match ChipRecord::new(octets) {
+                Ok(key) => looks_up(&key, own, peer, secret),
+                Err(_) => false,
+            },
+        }
+    }
+}
+
+fn looks_up<K: KeyLookup>(key: &K, own: &[u8; 25], peer: &[u8; 25], secret: &[u8; 24]) -> bool {
+    key.label() == *own && key.reply(peer) == Reply::Secret(*secret)
+}
+
+/// The own key that a line gives.
+fn own_key(rt: &LibcRuntime, sort: &[u8], word: &[u8]) -> Result<OwnKey, AnyError> {
+    if sort == b"chip" {
+        return Ok(OwnKey::Chip(octets(rt, word)?));
+    }
+    match decimal(word) {
+        Some(d) => Ok(OwnKey::Bench(d)),
+        None => Err("a private number is not a number".into()),
+    }
+}
+
+/// The value of a decimal number of 32 bits.
+fn decimal(word: &[u8]) -> Option<u32> {
+    let mut value = 0u32;
+    for b in word {
+        if *b < b'0' || *b > b'9' {
+            return None;
+        }
+        value = value.checked_mul(10)?.checked_add(u32::from(*b - b'0'))?;
+    }
+    Some(value)
 }
 
 impl Session {
@@ -53,6 +114,8 @@ impl Session {
             payload: Vec::new(rt.alloc()),
             packets: 0,
             packet_agrees: false,
+            fob_key: OwnKey::None,
+            mixer_key: OwnKey::None,
         }
     }
 
@@ -65,11 +128,19 @@ impl Session {
         tally: &mut Tally,
     ) -> Result<(), AnyError> {
         let (first, rest) = split_word(rest);
-        let (second, _) = split_word(rest);
+        let (second, rest) = split_word(rest);
         if name == b"cipher" {
             self.number = self.number.saturating_add(1);
             self.speck = first == b"speck";
             self.packets = 0;
+        } else if name == b"key" {
+            let (third, _) = split_word(rest);
+            let key = own_key(rt, second, third)?;
+            if first == b"fob" {
+                self.fob_key = key;
+            } else {
+                self.mixer_key = key;
+            }
         } else if name == b"identities" {
             let fob = fixed::<10>(rt, first)?;
             let mixer = fixed::<10>(rt, second)?;
@@ -138,6 +209,11 @@ impl Session {
             self.labels.0 = part::<25>(&octets(rt, first)?, 3)?;
         } else if name == b"ACT_RES" {
             self.labels.1 = part::<25>(&octets(rt, first)?, 3)?;
+            let (fob, mixer) = self.labels;
+            let agrees = self.fob_key.gives(&fob, &mixer, &self.secret)
+                && self.mixer_key.gives(&mixer, &fob, &self.secret);
+            print!(rt, "session {} labels and secrets", self.number)?;
+            report(rt, agrees, tally)?;
         } else if name == b"VFY_REQ" {
             let agrees = self.confirms(Confirmation::Fob) == part::<12>(&octets(rt, first)?, 3)?;
             print!(rt, "session {} fob's confirmation", self.number)?;
