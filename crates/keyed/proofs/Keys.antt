@@ -18,6 +18,7 @@ weighed b =
     + getD b 7 0 * 2 ^ 64 + getD b 8 0 * 2 ^ 56 + getD b 9 0 * 2 ^ 48 + getD b 10 0 * 2 ^ 40 + getD b 11 0 * 2 ^ 32 + getD b 12 0 * 2 ^ 24 + getD b 13 0 * 2 ^ 16
     + getD b 14 0 * 2 ^ 8 + getD b 15 0
 
+-- which is the number that they are in base 256
 pub weighed-number : (b : List ℕ) → length b ≡ 16 → weighed b ≡ number 256 b
 weighed-number b h =
     let e : b ≡ map (λ i. getD b i 0) (counting 0 16) = fill-by-all (λ i. getD b i 0) b 16 0 h (λ k l. refl) in

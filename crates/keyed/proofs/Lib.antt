@@ -3,4 +3,4 @@ mod Blocks
 mod Joins
 pub mod Keys
 mod Schedules
-mod Stream
+pub mod Stream

@@ -23,19 +23,19 @@ pub enum Confirmation {
 
 /// The labels of the two ends: QA and QB.
 #[derive(Clone, Copy)]
-pub struct Labels<'a> {
-    pub fob: &'a [u8; 25],
-    pub mixer: &'a [u8; 25],
+pub struct Labels {
+    pub fob: [u8; 25],
+    pub mixer: [u8; 25],
 }
 
 /// The string of a confirmation. No protocol identifier so far takes the nonces into it.
 fn confirmation_string<'a, C: BlockCipher>(
     which: Confirmation,
     identities: &'a Identities,
-    labels: Labels<'a>,
-    nonces: Nonces<'a>,
+    labels: &'a Labels,
+    nonces: &'a Nonces,
 ) -> [u8; 71]
-    ensures value { λ r. ⌜ r ≡ confirmation (C·BlockCipher .protocol) which (now (identities .entry) .fob) (now (identities .entry) .mixer) (now (labels .entry .fob)) (now (labels .entry .mixer)) (now (nonces .entry .fob)) (now (nonces .entry .mixer)) ⌝ }
+    ensures value { λ r. ⌜ r ≡ confirmation (C·BlockCipher .protocol) which (now (identities .entry) .fob) (now (identities .entry) .mixer) (now (labels .entry) .fob) (now (labels .entry) .mixer) (now (nonces .entry) .fob) (now (nonces .entry) .mixer) ⌝ }
 {
     let Identities {
         fob: ida,
@@ -59,30 +59,30 @@ pub fn confirmation_tag<C: BlockCipher>(
     which: Confirmation,
     master: &[u8; 16],
     identities: &Identities,
-    labels: Labels<'_>,
-    nonces: Nonces<'_>,
+    labels: &Labels,
+    nonces: &Nonces,
     workspace: &mut [u8],
 ) -> [u8; 12]
     requires { ⌜ 256 ≤ length (now workspace) ⌝ }
-    ensures value { λ r. ⌜ r ≡ tag (E (C·BlockCipher .schedule) (C·BlockCipher .worked)) (now (master .entry)) (confirmation (C·BlockCipher .protocol) which (now (identities .entry) .fob) (now (identities .entry) .mixer) (now (labels .entry .fob)) (now (labels .entry .mixer)) (now (nonces .entry .fob)) (now (nonces .entry .mixer))) ⌝ }
+    ensures value { λ r. ⌜ r ≡ tag (E (C·BlockCipher .schedule) (C·BlockCipher .worked)) (now (master .entry)) (confirmation (C·BlockCipher .protocol) which (now (identities .entry) .fob) (now (identities .entry) .mixer) (now (labels .entry) .fob) (now (labels .entry) .mixer) (now (nonces .entry) .fob) (now (nonces .entry) .mixer)) ⌝ }
     ensures workspace { λ _. ⌜ drop 256 (now (workspace .exit)) ≡ drop 256 (now (workspace .entry)) ⌝ }
 {
     let string = confirmation_string::<C>(which, identities, labels, nonces);
     tag::<C>(master, &string, workspace)
 }
 
-/// Whether `octets` are the tag that confirms a handshake. No octet decides how long the answer takes.
+/// Whether `octets` are the tag that confirms a handshake, by a comparison that does not leave early.
 pub fn confirmation_matches<C: BlockCipher>(
     which: Confirmation,
     master: &[u8; 16],
     identities: &Identities,
-    labels: Labels<'_>,
-    nonces: Nonces<'_>,
+    labels: &Labels,
+    nonces: &Nonces,
     octets: &[u8],
     workspace: &mut [u8],
 ) -> bool
     requires { ⌜ 256 ≤ length (now workspace) ⌝ }
-    ensures value { λ r. ⌜ r ≡ sameBytes (tag (E (C·BlockCipher .schedule) (C·BlockCipher .worked)) (now (master .entry)) (confirmation (C·BlockCipher .protocol) which (now (identities .entry) .fob) (now (identities .entry) .mixer) (now (labels .entry .fob)) (now (labels .entry .mixer)) (now (nonces .entry .fob)) (now (nonces .entry .mixer)))) (now (octets .entry)) ⌝ }
+    ensures value { λ r. ⌜ r ≡ sameBytes (tag (E (C·BlockCipher .schedule) (C·BlockCipher .worked)) (now (master .entry)) (confirmation (C·BlockCipher .protocol) which (now (identities .entry) .fob) (now (identities .entry) .mixer) (now (labels .entry) .fob) (now (labels .entry) .mixer) (now (nonces .entry) .fob) (now (nonces .entry) .mixer))) (now (octets .entry)) ⌝ }
     ensures workspace { λ _. ⌜ drop 256 (now (workspace .exit)) ≡ drop 256 (now (workspace .entry)) ⌝ }
 {
     let string = confirmation_string::<C>(which, identities, labels, nonces);

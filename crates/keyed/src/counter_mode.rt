@@ -18,8 +18,8 @@ pub fn keystream<C: BlockCipher>(
     ensures value { λ r. ⌜ r ≡ moved counter (length (take (length (now (output .entry))) (now («data» .entry)))) ⌝ }
     ensures output { λ _. ⌜ now (output .exit) ≡ over (xored (E (C·BlockCipher .schedule) (C·BlockCipher .worked)) (now (key .entry)) counter (take (length (now (output .entry))) (now («data» .entry)))) (now (output .entry)) ⌝ }
     ensures workspace { λ _. ⌜ drop 256 (now (workspace .exit)) ≡ drop 256 (now (workspace .entry)) ⌝ }
-    ensures back { λ _. ⌜ Gives-back ⌝ }
-    ensures long { λ _. ⌜ Keeps-length ⌝ }
+    ensures gives_back { λ _. ⌜ Gives-back ⌝ }
+    ensures keeps_length { λ _. ⌜ Keeps-length ⌝ }
 {
     C::prepare(key, workspace);
     let count = data.len().min(output.len());

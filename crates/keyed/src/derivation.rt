@@ -20,9 +20,9 @@ pub struct Identities {
 
 /// The nonces of the two ends: NA and NB.
 #[derive(Clone, Copy)]
-pub struct Nonces<'a> {
-    pub fob: &'a [u8; 12],
-    pub mixer: &'a [u8; 12],
+pub struct Nonces {
+    pub fob: [u8; 12],
+    pub mixer: [u8; 12],
 }
 
 /// What a session starts with: MK, KE, KI and the first counter.
@@ -35,8 +35,8 @@ pub struct SessionKeys {
 }
 
 /// S: the first eight octets of each nonce.
-fn split_nonces(nonces: Nonces<'_>) -> [u8; 16]
-    ensures value { λ r. ⌜ r ≡ split (now (nonces .entry .fob)) (now (nonces .entry .mixer)) ⌝ }
+fn split_nonces(nonces: &Nonces) -> [u8; 16]
+    ensures value { λ r. ⌜ r ≡ split (now (nonces .entry) .fob) (now (nonces .entry) .mixer) ⌝ }
 {
     let mut octets = [0; 16];
     let Nonces { fob, mixer } = nonces;
@@ -65,11 +65,11 @@ fn next_key<'a, C: BlockCipher>(
 fn first_block<'a, C: BlockCipher>(
     master: &[u8; 16],
     integrity: &'a [u8; 16],
-    nonces: Nonces<'a>,
+    nonces: &'a Nonces,
     workspace: &mut [u8],
 ) -> [u8; 16]
     requires { ⌜ 256 ≤ length (now workspace) ⌝ }
-    ensures value { λ r. ⌜ r ≡ result (E (C·BlockCipher .schedule) (C·BlockCipher .worked)) (now (master .entry)) (counterString (now (integrity .entry)) (now (nonces .entry .fob)) (now (nonces .entry .mixer))) ⌝ }
+    ensures value { λ r. ⌜ r ≡ result (E (C·BlockCipher .schedule) (C·BlockCipher .worked)) (now (master .entry)) (counterString (now (integrity .entry)) (now (nonces .entry) .fob) (now (nonces .entry) .mixer)) ⌝ }
     ensures workspace { λ _. ⌜ drop 256 (now (workspace .exit)) ≡ drop 256 (now (workspace .entry)) ⌝ }
 {
     let Nonces { fob, mixer } = nonces;
@@ -79,12 +79,12 @@ fn first_block<'a, C: BlockCipher>(
 /// The keys and the first counter that both ends work out of what they sent and of their secret.
 pub fn derive<C: BlockCipher>(
     identities: &Identities,
-    nonces: Nonces<'_>,
+    nonces: &Nonces,
     secret: &[u8; 24],
     workspace: &mut [u8],
 ) -> SessionKeys
     requires { ⌜ 256 ≤ length (now workspace) ⌝ }
-    ensures value { λ r. ⌜ r ≡ derived (E (C·BlockCipher .schedule) (C·BlockCipher .worked)) (now (nonces .entry .fob)) (now (nonces .entry .mixer)) (now (identities .entry) .fob) (now (identities .entry) .mixer) (now (secret .entry)) ⌝ }
+    ensures value { λ r. ⌜ r ≡ derived (E (C·BlockCipher .schedule) (C·BlockCipher .worked)) (now (nonces .entry) .fob) (now (nonces .entry) .mixer) (now (identities .entry) .fob) (now (identities .entry) .mixer) (now (secret .entry)) ⌝ }
     ensures workspace { λ _. ⌜ drop 256 (now (workspace .exit)) ≡ drop 256 (now (workspace .entry)) ⌝ }
 {
     let s = split_nonces(nonces);

@@ -84,7 +84,7 @@ pub fn tag<C: BlockCipher>(key: &[u8; 16], message: &[u8], workspace: &mut [u8])
     short
 }
 
-/// Whether `octets` are the tag of a message. No octet decides how long the answer takes.
+/// Whether `octets` are the tag of a message, by a comparison that does not leave early.
 pub fn tag_matches<C: BlockCipher>(
     key: &[u8; 16],
     message: &[u8],
@@ -98,7 +98,7 @@ pub fn tag_matches<C: BlockCipher>(
     same(&tag::<C>(key, message, workspace), octets)
 }
 
-/// Whether these octets are the expected tag, by a comparison that goes through all twelve, whatever it meets.
+/// Whether these octets are the expected tag. The comparison goes through all twelve, whatever it meets.
 fn same(expected: &[u8; 12], octets: &[u8]) -> bool
     ensures value { λ r. ⌜ r ≡ sameBytes (now (expected .entry)) (now (octets .entry)) ⌝ }
 {

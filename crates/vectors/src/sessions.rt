@@ -30,8 +30,8 @@ pub struct Session {
     number: u32,
     speck: bool,
     identities: Identities,
-    nonces: ([u8; 12], [u8; 12]),
-    labels: ([u8; 25], [u8; 25]),
+    nonces: Nonces,
+    labels: Labels,
     secret: [u8; 24],
     keys: SessionKeys,
     payload: Vec<u8>,
@@ -102,8 +102,14 @@ impl Session {
                 fob: [0; 10],
                 mixer: [0; 10],
             },
-            nonces: ([0; 12], [0; 12]),
-            labels: ([0; 25], [0; 25]),
+            nonces: Nonces {
+                fob: [0; 12],
+                mixer: [0; 12],
+            },
+            labels: Labels {
+                fob: [0; 25],
+                mixer: [0; 25],
+            },
             secret: [0; 24],
             keys: SessionKeys {
                 master: [0; 16],
@@ -146,7 +152,9 @@ impl Session {
             let mixer = fixed::<10>(rt, second)?;
             self.identities = Identities { fob, mixer };
         } else if name == b"nonces" {
-            self.nonces = (fixed::<12>(rt, first)?, fixed::<12>(rt, second)?);
+            let fob = fixed::<12>(rt, first)?;
+            let mixer = fixed::<12>(rt, second)?;
+            self.nonces = Nonces { fob, mixer };
         } else if name == b"secret" {
             self.secret = fixed::<24>(rt, first)?;
         } else if name == b"IV" || name == b"MK" || name == b"KE" || name == b"KI" {
@@ -189,11 +197,12 @@ impl Session {
     }
 
     fn derived<C: BlockCipher>(&self) -> SessionKeys {
-        let nonces = Nonces {
-            fob: &self.nonces.0,
-            mixer: &self.nonces.1,
-        };
-        keyed::derive::<C>(&self.identities, nonces, &self.secret, &mut [0; WORKSPACE])
+        keyed::derive::<C>(
+            &self.identities,
+            &self.nonces,
+            &self.secret,
+            &mut [0; WORKSPACE],
+        )
     }
 
     /// Takes in a message, a payload or a counter, and compares what it gives.
@@ -206,10 +215,10 @@ impl Session {
         tally: &mut Tally,
     ) -> Result<(), AnyError> {
         if name == b"ACT_REQ" {
-            self.labels.0 = part::<25>(&octets(rt, first)?, 3)?;
+            self.labels.fob = part::<25>(&octets(rt, first)?, 3)?;
         } else if name == b"ACT_RES" {
-            self.labels.1 = part::<25>(&octets(rt, first)?, 3)?;
-            let (fob, mixer) = self.labels;
+            self.labels.mixer = part::<25>(&octets(rt, first)?, 3)?;
+            let Labels { fob, mixer } = self.labels;
             let agrees = self.fob_key.gives(&fob, &mixer, &self.secret)
                 && self.mixer_key.gives(&mixer, &fob, &self.secret);
             print!(rt, "session {} labels and secrets", self.number)?;
@@ -250,20 +259,12 @@ impl Session {
     }
 
     fn confirmation<C: BlockCipher>(&self, which: Confirmation) -> [u8; 12] {
-        let labels = Labels {
-            fob: &self.labels.0,
-            mixer: &self.labels.1,
-        };
-        let nonces = Nonces {
-            fob: &self.nonces.0,
-            mixer: &self.nonces.1,
-        };
         keyed::confirmation_tag::<C>(
             which,
             &self.keys.master,
             &self.identities,
-            labels,
-            nonces,
+            &self.labels,
+            &self.nonces,
             &mut [0; WORKSPACE],
         )
     }

@@ -21,7 +21,7 @@ whole k c d o v k′ n keeps h ek en e =
 pub returns : need.returns
 returns c = record {
   value = grind (arith, tells);
-  output = whole (c .args .key .now) (c .args .counter .now) (c .args .data .now) (c .args .output .now) _ _ _ (c .keystream-moved .ensures .long)
+  output = whole (c .args .key .now) (c .args .counter .now) (c .args .data .now) (c .args .output .now) _ _ _ (c .keystream-moved .ensures .keeps-length)
       (omega arith) (c .copy-from-slice .ensures .after) (c .counter-in .ensures .value)
       (c .keystream-moved .ensures .output);
   workspace = c .keystream-moved .ensures .workspace;

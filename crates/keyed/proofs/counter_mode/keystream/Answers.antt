@@ -48,6 +48,6 @@ returns g c =
       output = masked-all (E (b .schedule) (b .worked)) k _ (c .args .counter) (c .args .data .now) (c .args .output .now) (c .loop-i .i)
           (enciphers (b .size) (b .worked) (b .schedule k) w v (law .scheduled k) (c .pre) (omega arith) (c .prepare .ensures .workspace)) all (c .loop-i .inv .3);
       workspace = keeps (b .size) (b .schedule k) w v (law .scheduled k) (law .fits) (c .pre) (c .prepare .ensures .workspace);
-      back = gives-back;
-      long = keeps-length;
+      gives-back = gives-back;
+      keeps-length = keeps-length;
     }

@@ -11,6 +11,6 @@ pub returns : need.returns
 unfolding split
 returns c = record {
   value =
-      fills (take 8 (c .args .nonces .fob .now) ++ (take 8 (c .args .nonces .mixer .now) ++ [])) (replicate 16 0) (simp (length-append, length-take) (omega arith)) (c .write .ensures .output)
-      ∙ ap (λ t. take 8 (c .args .nonces .fob .now) ++ t) (append-nil (take 8 (c .args .nonces .mixer .now)));
+      fills (take 8 (c .args .nonces .now .fob) ++ (take 8 (c .args .nonces .now .mixer) ++ [])) (replicate 16 0) (simp (length-append, length-take) (omega arith)) (c .write .ensures .output)
+      ∙ ap (λ t. take 8 (c .args .nonces .now .fob) ++ t) (append-nil (take 8 (c .args .nonces .now .mixer)));
 }
