@@ -34,7 +34,7 @@ fn last_round(s: [Row; 4], k: [Row; 4]) -> [Row; 4]
 }
 
 /// A block under a schedule of eleven round keys.
-pub fn encrypt(schedule: &[u8], block: &[u8; 16]) -> [u8; 16]
+pub(crate) fn encrypt(schedule: &[u8], block: &[u8; 16]) -> [u8; 16]
     requires { ⌜ length (now schedule) ≡ 176 ⌝ }
     ensures value { λ r. ⌜ r ≡ cipher (now (schedule .entry)) (now (block .entry)) ⌝ }
 {

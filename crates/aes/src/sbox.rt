@@ -272,7 +272,7 @@ fn entry(table: &[u8; 256], x: u8) -> u8
 }
 
 /// An octet through the S-box.
-pub fn sub_byte(x: u8) -> u8
+pub(crate) fn sub_byte(x: u8) -> u8
     ensures value { λ r. ⌜ r ≡ sbox x ⌝ }
 {
     entry(&TABLE, x)

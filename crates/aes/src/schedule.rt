@@ -75,7 +75,7 @@ fn next_word(key: &[u8; 16], before: &[u8], i: usize) -> [u8; 4]
 }
 
 /// Writes the eleven round keys of a key.
-pub fn expand(key: &[u8; 16], schedule: &mut [u8])
+pub(crate) fn expand(key: &[u8; 16], schedule: &mut [u8])
     requires { ⌜ length (now schedule) ≡ 176 ⌝ }
     ensures output { λ _. ⌜ now (schedule .exit) ≡ keyExpansion (now (key .entry)) ⌝ }
 {

@@ -19,7 +19,7 @@ fn multiples(x: u8) -> (u8, u8)
 
 /// A row of the state: its octets by column.
 #[derive(Clone, Copy)]
-pub struct Row {
+pub(crate) struct Row {
     c0: u8,
     c1: u8,
     c2: u8,
@@ -76,7 +76,7 @@ impl Row {
 }
 
 /// The state that sixteen octets fill, column by column.
-pub fn load(x: &[u8]) -> [Row; 4]
+pub(crate) fn load(x: &[u8]) -> [Row; 4]
     requires { ⌜ 16 ≤ length (now x) ⌝ }
     ensures value { λ r. ⌜ stateOf r ≡ input (now (x .entry)) ⌝ }
 {
@@ -89,7 +89,7 @@ pub fn load(x: &[u8]) -> [Row; 4]
 }
 
 /// The octets of a state, column by column.
-pub fn unload(s: [Row; 4]) -> [u8; 16]
+pub(crate) fn unload(s: [Row; 4]) -> [u8; 16]
     ensures value { λ r. ⌜ r ≡ output (stateOf s) ⌝ }
 {
     let [s0, s1, s2, s3] = s;
@@ -113,7 +113,7 @@ pub fn unload(s: [Row; 4]) -> [u8; 16]
     ]
 }
 
-pub fn sub_bytes(s: [Row; 4]) -> [Row; 4]
+pub(crate) fn sub_bytes(s: [Row; 4]) -> [Row; 4]
     ensures value { λ r. ⌜ stateOf r ≡ subBytes (stateOf s) ⌝ }
 {
     [
@@ -124,7 +124,7 @@ pub fn sub_bytes(s: [Row; 4]) -> [Row; 4]
     ]
 }
 
-pub fn shift_rows(s: [Row; 4]) -> [Row; 4]
+pub(crate) fn shift_rows(s: [Row; 4]) -> [Row; 4]
     ensures value { λ r. ⌜ stateOf r ≡ shiftRows (stateOf s) ⌝ }
 {
     let [s0, s1, s2, s3] = s;
@@ -136,7 +136,7 @@ pub fn shift_rows(s: [Row; 4]) -> [Row; 4]
     ]
 }
 
-pub fn mix_columns(s: [Row; 4]) -> [Row; 4]
+pub(crate) fn mix_columns(s: [Row; 4]) -> [Row; 4]
     ensures value { λ r. ⌜ stateOf r ≡ mixColumns (stateOf s) ⌝ }
 {
     let [s0, s1, s2, s3] = s;
@@ -152,7 +152,7 @@ pub fn mix_columns(s: [Row; 4]) -> [Row; 4]
     ]
 }
 
-pub fn add_round_key(s: [Row; 4], k: [Row; 4]) -> [Row; 4]
+pub(crate) fn add_round_key(s: [Row; 4], k: [Row; 4]) -> [Row; 4]
     ensures value { λ r. ⌜ stateOf r ≡ addRoundKey (stateOf s) (stateOf k) ⌝ }
 {
     [

@@ -15,7 +15,7 @@ mod sessions;
 
 /// How many figures were compared, and how many differ.
 #[derive(Clone, Copy)]
-pub struct Tally {
+pub(crate) struct Tally {
     compared: u32,
     wrong: u32,
 }
@@ -67,7 +67,7 @@ fn figure(rt: &LibcRuntime, sort: &[u8], words: &[u8], tally: &mut Tally) -> Res
 }
 
 /// Ends the line of a figure.
-pub fn report(rt: &LibcRuntime, agrees: bool, tally: &mut Tally) -> Result<(), AnyError> {
+pub(crate) fn report(rt: &LibcRuntime, agrees: bool, tally: &mut Tally) -> Result<(), AnyError> {
     tally.compared = tally.compared.saturating_add(1);
     if agrees {
         println!(rt, ": agrees")?;
@@ -79,7 +79,7 @@ pub fn report(rt: &LibcRuntime, agrees: bool, tally: &mut Tally) -> Result<(), A
 }
 
 /// The octets of a word.
-pub fn octets(rt: &LibcRuntime, word: &[u8]) -> Result<Vec<u8>, AnyError> {
+pub(crate) fn octets(rt: &LibcRuntime, word: &[u8]) -> Result<Vec<u8>, AnyError> {
     match text::octets(rt.alloc(), word)? {
         Some(octets) => Ok(octets),
         None => Err("a word of a figure is not hexadecimal".into()),
@@ -87,7 +87,7 @@ pub fn octets(rt: &LibcRuntime, word: &[u8]) -> Result<Vec<u8>, AnyError> {
 }
 
 /// The octets of a word that has N of them.
-pub fn fixed<const N: usize>(rt: &LibcRuntime, word: &[u8]) -> Result<[u8; N], AnyError> {
+pub(crate) fn fixed<const N: usize>(rt: &LibcRuntime, word: &[u8]) -> Result<[u8; N], AnyError> {
     let octets = octets(rt, word)?;
     match <[u8; N]>::try_from(octets.as_slice()) {
         Ok(octets) => Ok(octets),

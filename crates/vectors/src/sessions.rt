@@ -26,7 +26,7 @@ use text::split_word;
 
 /// What the lines of a session said so far.
 #[derive(Drop)]
-pub struct Session {
+pub(crate) struct Session {
     number: u32,
     speck: bool,
     identities: Identities,
@@ -94,7 +94,7 @@ fn decimal(word: &[u8]) -> Option<u32> {
 }
 
 impl Session {
-    pub fn new(rt: &LibcRuntime) -> Session {
+    pub(crate) fn new(rt: &LibcRuntime) -> Session {
         Session {
             number: 0,
             speck: false,
@@ -126,7 +126,7 @@ impl Session {
     }
 
     /// Takes in a line that begins with `name`, and compares what it gives.
-    pub fn line(
+    pub(crate) fn line(
         &mut self,
         rt: &LibcRuntime,
         name: &[u8],
