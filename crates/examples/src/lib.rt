@@ -2,6 +2,6 @@
 ghost use Rattle.examples.specs.Examples.{Examples};
 
 /// The definitions give what was worked out by hand. It does nothing; its contract is the examples.
-pub fn worked_examples()
-    ensures examples { λ _. ⌜ Examples ⌝ }
+pub fn worked_examples<C, K>()
+    ensures examples { λ _. ⌜ Examples C K ⌝ }
 {}

@@ -1,3 +1,4 @@
+-- Each of the two strings fills its seventy-one octets.
 use mathlib.Core.Path.{_∙_, ap, refl}
 use native.Mathlib.Omega.{arith}
 use lib.ListN.{replicate, length-append}

@@ -1,3 +1,4 @@
+-- A block comes where it is due, each octet is written with its own, and the counter ends behind the last block.
 use mathlib.Core.Path.{_≡_, _∙_, ap, refl}
 use mathlib.Core.List.{List}
 use Prim.Native.Nat.{ℕ, _+_, _-_, _/_, _%_, _^_, _<_}

@@ -1,3 +1,4 @@
+-- What holds after i octets.
 use mathlib.Core.Path.{_≡_}
 use mathlib.Core.List.{_++_}
 use Prim.Native.Nat.{_-_, _+_, _/_, _%_, _^_, _<_}

@@ -1,3 +1,4 @@
+-- The results are the keys and the first counter.
 use mathlib.Core.Path.{_∙_}
 use borrow.Author.Needs.{needs}
 use Rattle.cipher.specs.Cipher.{E}

@@ -1,3 +1,4 @@
+-- The parts are the string of the first counter.
 use mathlib.Core.Path.{_∙_}
 use native.Mathlib.Omega.{arith}
 use lib.ListN.{length-append}

@@ -1,3 +1,4 @@
+-- Two halves of eight octets fill S.
 use mathlib.Core.Path.{_∙_, ap}
 use mathlib.Core.List.{[], _++_}
 use native.Mathlib.Omega.{arith}

@@ -1,3 +1,4 @@
+-- The result is that of the parts joined.
 use native.Mathlib.Omega.{arith}
 use Rattle.cipher.specs.Cipher.{E}
 use Rattle.keyed.proofs.Joins.{joined-result}

@@ -1,3 +1,4 @@
+-- Each part has room, and lands right after those before it.
 use native.Mathlib.Omega.{arith}
 use Rattle.keyed.proofs.Joins.{nothing, joined-room, write-step, at-all, write-all}
 use Rattle.keyed.proofs.parts.write.Needs as need

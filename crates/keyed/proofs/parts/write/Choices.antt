@@ -1,3 +1,4 @@
+-- What holds after some parts.
 use mathlib.Core.Path.{_≡_}
 use mathlib.Core.List.{_++_}
 use lib.ListN.{length, take, drop}

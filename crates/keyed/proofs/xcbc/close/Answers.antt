@@ -1,3 +1,4 @@
+-- A full block goes with one key, a padded one with the other.
 use native.Mathlib.Omega.{arith}
 use Rattle.std.proofs.shelf.Ways.{tells}
 use Rattle.keyed.specs.Xcbc.{closed}

@@ -1,3 +1,4 @@
+-- The block written is the padded one.
 use Rattle.keyed.proofs.Blocks.{pad-is}
 use Rattle.keyed.proofs.xcbc.pad.Needs as need
 

@@ -1,3 +1,4 @@
+-- The result comes from its parts, and what lies past the schedule is kept.
 use mathlib.Core.Path.{_≡_, _∙_}
 use borrow.Author.Needs.{needs}
 use native.Mathlib.Omega.{arith}

@@ -1,3 +1,4 @@
+-- Each turn is one block more of the chain.
 use mathlib.Core.Path.{refl}
 use native.Mathlib.Omega.{arith}
 use Rattle.cipher.specs.Cipher.{enciphered}

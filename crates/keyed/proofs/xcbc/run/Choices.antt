@@ -1,3 +1,4 @@
+-- What holds after i blocks.
 use mathlib.Core.Path.{_≡_}
 use Rattle.cipher.specs.Cipher.{enciphered}
 use Rattle.keyed.specs.Xcbc.{chain}

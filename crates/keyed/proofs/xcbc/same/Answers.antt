@@ -1,3 +1,4 @@
+-- The gathered difference tells whether all twelve octets agree.
 use native.Mathlib.Omega.{arith}
 use Rattle.keyed.proofs.Agrees.{agree-more, agreed, unequal}
 use Rattle.keyed.proofs.xcbc.same.Needs as need

@@ -1,3 +1,4 @@
+-- What holds after i octets.
 use Rattle.keyed.proofs.Agrees.{Agree}
 use Rattle.keyed.proofs.xcbc.same.Given as given
 

@@ -1,3 +1,4 @@
+-- The tag is the front of the result.
 use mathlib.Core.Path.{_∙_, ap}
 use lib.ListN.{take}
 use Rattle.keyed.specs.Xcbc.{tag}

@@ -1,3 +1,4 @@
+-- All sixteen octets are written.
 use native.Mathlib.Omega.{arith}
 use lib.Bits.{bitXor}
 use lib.ListN.{getD}

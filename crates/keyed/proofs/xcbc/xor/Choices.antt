@@ -1,3 +1,4 @@
+-- What holds after i octets.
 use mathlib.Core.Path.{_≡_}
 use Prim.Native.Nat.{ℕ, _<_}
 use lib.Bits.{bitXor}

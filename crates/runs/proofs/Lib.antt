@@ -1,0 +1,13 @@
+mod Model
+mod Base
+mod Flow
+mod Facts
+mod Steps
+mod View
+mod Whole
+mod Tests
+mod Samples
+mod Checks
+mod Fields
+mod Opening
+mod Passing
