@@ -1,3 +1,4 @@
 pub mod Steps
 pub mod Handshake
 pub mod Packets
+pub mod Laws

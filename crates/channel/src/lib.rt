@@ -1,4 +1,5 @@
 //! The two ends of a channel: the states that a fob and a mixer go through, and what each call makes of them.
+ghost use Rattle.channel.specs.Laws.{Outcome-laws};
 use fault::Fault;
 use keyed::Identities;
 use keyed::Labels;
@@ -109,3 +110,8 @@ pub struct NotStarted<E, K> {
     pub nonce: Nonce,
     pub fault: Fault,
 }
+
+/// What a refused call keeps, and what an accepted packet has passed and moved. It does nothing; its contract is the laws.
+pub fn outcome_laws<C, K>()
+    ensures laws { λ _. ⌜ Outcome-laws C K ⌝ }
+{}
