@@ -1,8 +1,8 @@
 -- The packets of an open channel: both ends stand level, or one is a packet ahead.
 use mathlib.Core.Path.{_≡_, refl, sym, _∙_, ap, subst}
 use mathlib.Core.List.{List, [], _∷_, _++_}
-use mathlib.Core.Logic.{_⊎_, inl, inr, _≢_}
-use Prim.Native.Nat.{ℕ, zero, suc, _+_, _*_, _/_, _%_, _^_, _<_, _≤_}
+use mathlib.Core.Logic.{inl, inr}
+use Prim.Native.Nat.{ℕ, _+_, _*_, _%_, _^_, _<_, _≤_}
 use native.Mathlib.Omega.{arith}
 use lib.ListN.{length}
 use Rattle.keyed.specs.Keystream.{blocks, moved}
@@ -10,7 +10,7 @@ use Rattle.channel.specs.declared.Role.{Role}
 use Rattle.runs.specs.History.{Event, offers, reads, proves, opens, sends, accepts, seals, unseals, Entry, _did_, logged}
 use Rattle.runs.specs.Law.{_∈_, when, sealedIn, unsealedIn, sealed, unsealed, No-block-twice, Up-to-last}
 use Rattle.runs.proofs.Model.{Octets, parity, last-number}
-use Rattle.runs.proofs.Base.{Opposite, fm, mf, swap, when-own, when-other, when-none, parities, counters-apart, counter-moved, blocks-small, zero-one}
+use Rattle.runs.proofs.Base.{Opposite, swap, when-own, when-other, when-none, parities, counters-apart, counter-moved, blocks-small}
 
 -- of each entry of a log
 abbrev pub All : (Role → Event → Type 0) → List Entry → Type 0
@@ -116,7 +116,7 @@ flow-up-to-last (level a b l) = inl (sym (l .from-y))
 flow-up-to-last (ahead a) = inl (sym (a .from-y))
 flow-up-to-last (behind a) = inr (a .p, a .from-x)
 
--- where no tag of a packet is about
+-- an event that neither seals nor unseals
 abbrev pub Still : Event → Type 1
 Still d = (sealedIn d ≡ []) × (unsealedIn d ≡ []) × ((P : Role → ℕ → ℕ → Octets → Type 0) (x : Role) → If-seal P x d)
 
@@ -170,7 +170,7 @@ pub flow-stills : {v : ℕ} {x y : Role} {n c k d : ℕ} (log : List Entry) (z :
 flow-stills log z [] q h = h
 flow-stills log z (e ∷ es) q h = flow-still z e (q .0) (flow-stills log z es (q .1) h)
 
--- its blocks are new
+-- where both stand level, the blocks of the next packet are new
 new-blocks :
     {v : ℕ} {x y : Role} {log : List Entry} {n c : ℕ} (p : Octets) → n < last-number → length p ≤ 4096 → (l : Level v x y log n c) →
     (z : Role) (k d : ℕ) (q : Octets) → z did seals k d q ∈ log → No-block-twice c (length p) d (length q)

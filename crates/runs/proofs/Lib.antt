@@ -1,7 +1,9 @@
 mod Model
 mod Base
 mod Flow
+mod Places
 mod Facts
+mod Moves
 mod Steps
 mod View
 mod Whole

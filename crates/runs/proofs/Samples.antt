@@ -1,10 +1,10 @@
 -- Two histories, computed: a handshake and packets as sent, and the same handshake with a nonce altered on the way.
 use mathlib.Core.Path.{_≡_, refl, ap}
 use mathlib.Core.List.{List, [], _∷_, _++_}
-use mathlib.Core.Logic.{_⊎_, inl, inr, _≢_}
+use mathlib.Core.Logic.{inl, inr}
 use Prim.Native.Nat.{ℕ, _+_, _*_, _%_, _^_}
 use native.Mathlib.Omega.{arith}
-use lib.ListN.{length, getD, replicate}
+use lib.ListN.{getD, replicate}
 use Rattle.keyed.specs.Derivation.{split, seed, masterString, masterKey, encryptionString, encryptionKey, integrityString, integrityKey, counterString, firstCounter}
 use Rattle.keyed.specs.Keystream.{counterBlock, streamed, xored}
 use Rattle.keyed.specs.Strings.{confirmation, three, packet}

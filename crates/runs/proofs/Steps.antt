@@ -1,10 +1,10 @@
 -- Each step keeps what holds of both ends.
 use mathlib.Core.Path.{_≡_, refl, sym, _∙_, ap, subst}
 use mathlib.Core.List.{List, [], _∷_, _++_}
-use mathlib.Core.Logic.{_⊎_, inl, inr, _≢_}
-use Prim.Native.Nat.{ℕ, zero, suc, _+_, _*_, _/_, _%_, _^_, _<_, _≤_}
+use mathlib.Core.Logic.{inl, inr}
+use Prim.Native.Nat.{ℕ, _+_, _%_, _^_, _<_, _≤_}
 use native.Mathlib.Omega.{arith}
-use lib.ListN.{length, take, drop}
+use lib.ListN.{length, take}
 use Rattle.keyed.specs.declared.derivation.Identities.{Identities}
 use Rattle.keyed.specs.Derivation.{split, masterKey, encryptionKey, integrityKey, firstCounter}
 use Rattle.keyed.specs.Keystream.{moved}
@@ -12,13 +12,15 @@ use Rattle.keyed.specs.Strings.{confirmation, packet}
 use Rattle.keyed.specs.Xcbc.{result, tag}
 use Rattle.channel.specs.declared.Role.{Role}
 use Rattle.channel.specs.declared.Role.the-variants.{Fob as AtFob, Mixer as AtMixer}
-use Rattle.runs.specs.History.{Event, offers, reads, proves, opens, sends, accepts, seals, unseals, Entry, _did_, Keyed}
-use Rattle.runs.specs.Law.{other, _∈_, Everywhere, Nonces-as-sent, Met, No-block-twice}
+use Rattle.runs.specs.History.{Event, offers, reads, proves, opens, sends, accepts, seals, unseals, Entry, _did_}
+use Rattle.runs.specs.Law.{other, _∈_, Met}
 use Rattle.runs.proofs.Model.{Octets, Inputs, Setting, Ghost, fresh, invited, holding, opened, last-number, parity, label, seeded, mk, ke, ki, iv, mk-string, ki-string, proof, tagged, crypt}
 use Rattle.keyed.proofs.Stream.{keeps-length, gives-back}
 use Rattle.runs.proofs.Base.{opposite, fob-mixer, four, tail-same, masters-same, encryptions-same, integrities-same, integrity-no-master, packet-same}
 use Rattle.runs.proofs.Flow.{seals-map, Old, level, flow-seal, flow-seal-apart, flow-unseal, flow-stills, Stills}
-use Rattle.runs.proofs.Facts.{Inputs-of, Opened-of, Not-open, not-open-opened, nonces-less, Early, early-stills, Origin, by-proof, by-seal, Derived, Fob-trail, Mixer-trail, Mixer-at, fob-more, mixer-trail-more, fob-trail-of, Live, live-stills, With-open, Both, both-moves, plain, opens-fob, opens-mixer, seals-new, Facts, fob-moves, mixer-moves, FactsAt, places-of, own-derived, their-derived, their-origin, open-moves, Linked, linked}
+use Rattle.runs.proofs.Places.{nonces-less, plain, opens-fob, opens-mixer, seals-new}
+use Rattle.runs.proofs.Facts.{Inputs-of, Opened-of, Not-open, not-open-opened, Early, early-stills, Origin, by-proof, by-seal, Derived, Fob-trail, Mixer-trail, Mixer-at, fob-more, mixer-trail-more, fob-trail-of, Live, live-stills, With-open, Both, both-moves, Facts}
+use Rattle.runs.proofs.Moves.{fob-moves, mixer-moves, FactsAt, places-of, own-derived, their-derived, their-origin, open-moves, Linked, linked}
 
 module _ {C K L : Type 0} (m : Setting C K L) where
   -- keys

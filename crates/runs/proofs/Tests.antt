@@ -1,5 +1,5 @@
 -- Tests that compute: a history that passes them has no lucky tag, and its nonces arrive as sent.
-use mathlib.Core.Path.{_≡_, refl, sym, _∙_, ap, subst}
+use mathlib.Core.Path.{_≡_, refl, _∙_, ap, subst}
 use mathlib.Core.Bool.{Bool, true, false, not, _&&_, _||_}
 use mathlib.Core.List.{List, [], _∷_}
 use mathlib.Core.Logic.{_⊎_, inl, inr, ⊎-elim}
@@ -10,7 +10,7 @@ use Rattle.std.proofs.shelf.Tests.{false≢true, both-ways, not-true, and-parts
 use Rattle.keyed.specs.Xcbc.{tag}
 use Rattle.channel.specs.declared.Role.{Role}
 use Rattle.channel.specs.declared.Role.the-variants.{Fob as AtFob, Mixer as AtMixer}
-use Rattle.runs.specs.History.{Event, offers, reads, proves, opens, sends, accepts, seals, unseals, Entry, _did_, Keyed, History}
+use Rattle.runs.specs.History.{offers, reads, proves, opens, sends, accepts, seals, unseals, Entry, _did_, Keyed, History}
 use Rattle.runs.specs.Law.{other, _∈_, Everywhere, No-lucky-tag, Nonces-as-sent}
 use Rattle.runs.proofs.Model.{Octets}
 

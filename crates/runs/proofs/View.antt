@@ -1,9 +1,9 @@
 -- What each call makes of an end is one of its steps.
 use mathlib.Core.Path.{_≡_, refl, sym, _∙_, ap, subst}
 use mathlib.Core.Bool.{Bool, true, false, not, cond}
-use mathlib.Core.List.{List, [], _∷_, _++_}
+use mathlib.Core.List.{List, [], _∷_}
 use mathlib.Core.Logic.{_⊎_, inl, inr}
-use Prim.Native.Nat.{ℕ, _+_, _%_, _<_, _≤_}
+use Prim.Native.Nat.{ℕ, _+_, _%_}
 use native.Mathlib.Omega.{arith}
 use lib.Dec.{leb, ltb, eqb}
 use lib.ListN.{length, take, drop}
@@ -41,7 +41,7 @@ use Rattle.runs.specs.declared.FobSide.the-variants.{Fresh as FreshFob, Invite
 use Rattle.runs.specs.declared.MixerSide.{MixerSide}
 use Rattle.runs.specs.declared.MixerSide.the-variants.{Fresh as FreshMixer, Answered as AnsweredMixer, Open as OpenMixer, Closed as ClosedMixer}
 use Rattle.runs.specs.History.{Keyed, Done, idle, secretIn, forTag, afterInvite, inviteAt, fobConfirmation, mixerConfirmation, afterAnswer, answerAt, afterProve, proveAt, afterConfirm, confirmAt, afterFinish, finishAt, sealedBy, unsealedBy, atFob, atMixer, openFobDoes, openMixerDoes}
-use Rattle.runs.proofs.Model.{Octets, Inputs, Setting, Ghost, fresh, invited, holding, opened, parity, label, mk, ke, ki, iv, Step, nothing, inviting, answering, proving, confirming, finishing, sealing, unsealing}
+use Rattle.runs.proofs.Model.{Octets, Inputs, Setting, Ghost, fresh, invited, holding, opened, parity, mk, ke, ki, iv, Step, nothing, inviting, answering, proving, confirming, finishing, sealing, unsealing}
 use Rattle.keyed.proofs.Stream.{keeps-length}
 
 -- a check, step by step: where every refusal will do, the rest needs to be shown only past the tests

@@ -1,27 +1,25 @@
 -- The law of runs, by induction on the calls.
-use mathlib.Core.Path.{_≡_, refl, sym, _∙_, ap, subst}
+use mathlib.Core.Path.{_≡_, refl, sym, _∙_, subst}
 use mathlib.Core.List.{List, [], _∷_, _++_}
-use mathlib.Core.Logic.{_⊎_, inl, inr, _≢_}
-use Prim.Native.Nat.{ℕ, _+_, _%_, _<_, _≤_}
-use lib.ListN.{length}
+use mathlib.Core.Logic.{inl, inr, _≢_}
+use Prim.Native.Nat.{ℕ, _+_}
 use Rattle.std.specs.Iters.{folded}
 use Rattle.keyed.specs.Keystream.{moved}
 use Rattle.keyed.specs.Strings.{packet}
 use Rattle.channel.specs.declared.Role.{Role}
 use Rattle.channel.specs.declared.Role.the-variants.{Fob as AtFob, Mixer as AtMixer}
-use Rattle.channel.specs.declared.Fob.{Fob}
-use Rattle.channel.specs.declared.Mixer.{Mixer}
 use Rattle.channel.specs.Packets.{sealCheck, unsealCheck}
 use Rattle.runs.specs.declared.FobSide.{FobSide}
 use Rattle.runs.specs.declared.FobSide.the-variants.{Closed as ClosedFob}
 use Rattle.runs.specs.declared.MixerSide.{MixerSide}
 use Rattle.runs.specs.declared.MixerSide.the-variants.{Closed as ClosedMixer}
-use Rattle.runs.specs.History.{Call, invite, answer, prove, confirm, finish, seal, unseal, close, Event, opens, sends, accepts, seals, unseals, Entry, _did_, Keyed, Done, idle, inviteAt, answerAt, proveAt, confirmAt, finishAt, sealedBy, unsealedBy, openFobDoes, openMixerDoes, History, logged, fobDid, mixerDid, Lookups, start, step, history}
-use Rattle.runs.specs.Law.{other, _∈_, Everywhere, sealed, unsealed, No-lucky-tag, Nonces-as-sent, FobHolds, MixerHolds, Up-to-last, Law, Named, Law-of-runs}
-use Rattle.runs.proofs.Model.{Octets, Inputs, Setting, Ghost, fresh, invited, holding, opened, last-number, parity, seeded, mk, ke, ki, iv, mk-string, ki-string, results, proof, tagged, crypt, Step, nothing, inviting, answering, proving, confirming, finishing, sealing, unsealing}
+use Rattle.runs.specs.History.{Call, invite, answer, prove, confirm, finish, seal, unseal, close, Event, opens, sends, accepts, unseals, Entry, _did_, Keyed, Done, idle, inviteAt, answerAt, proveAt, confirmAt, finishAt, sealedBy, unsealedBy, openFobDoes, openMixerDoes, History, logged, fobDid, mixerDid, start, step, history}
+use Rattle.runs.specs.Law.{other, _∈_, Everywhere, sealed, unsealed, Nonces-as-sent, FobHolds, MixerHolds, Up-to-last, Law, Law-of-runs}
+use Rattle.runs.proofs.Model.{Octets, Inputs, Setting, Ghost, fresh, invited, holding, opened, seeded, mk, ke, ki, iv, mk-string, ki-string, results, proof, tagged, crypt, Step, nothing, inviting, answering, proving, confirming, finishing, sealing, unsealing}
 use Rattle.runs.proofs.Base.{in-append}
 use Rattle.runs.proofs.Flow.{all-in, flow-up-to-last, flow-swap}
-use Rattle.runs.proofs.Facts.{Is-open, Early, Says, Derived, Live, Both, Sent-before, Facts, FactsAt}
+use Rattle.runs.proofs.Facts.{Is-open, Early, Says, Derived, Live, Both, Sent-before, Facts}
+use Rattle.runs.proofs.Moves.{FactsAt}
 use Rattle.runs.proofs.Steps.{invite-keeps, answer-keeps, prove-keeps, confirm-keeps, finish-keeps, seal-keeps, unseal-keeps}
 use Rattle.runs.proofs.View.{shownFob, shownMixer, WasFob, WasMixer, Moves, view-invite, view-answer, view-prove, view-confirm, view-finish, view-seal-fob, view-seal-mixer, view-unseal-fob, view-unseal-mixer}
 

@@ -12,7 +12,7 @@ use Rattle.runs.specs.History.{Call, opens, unseals, _did_, History, Lookups, 
 use Rattle.runs.specs.Law.{_∈_, sealed, unsealed, No-lucky-tag, Nonces-as-sent, Named}
 use Rattle.runs.specs.Unaltered.{Blocks}
 
--- all that a history depends on, as the law of runs demands it, with a cipher of sixteen octets
+-- all that a history depends on, with the premises of the law of runs, and a cipher of sixteen octets
 pub record Run : Type 0 where
   pub pid : ℕ
   pub cipher : List ℕ → List ℕ → List ℕ
