@@ -1,4 +1,6 @@
 //! AES-128: the block cipher of FIPS 197 with a key of 128 bits.
+#![tactic(auto)]
+
 ghost use Rattle.std.specs.Prelude.{◌≡◌, length, nat_lt};
 ghost use Rattle.std.proofs.Math.Path.{refl};
 ghost use Rattle.aes.specs.Field.{FieldLaws};

@@ -1,6 +1,8 @@
 //! Captured messages as text, one a line: the awaited kind, the protocol identifier, and the octets in hexadecimal.
 //!
 //! An empty line, and one whose first word begins with `#`, holds no message.
+#![tactic(auto)]
+
 ghost use Rattle.std.specs.Prelude.{◌≡◌, IfOk};
 ghost use Rattle.capture.specs.Lines.{viewed, meaning};
 

@@ -2,6 +2,8 @@
 //!
 //! A fob invites, proves and finishes; a mixer answers and confirms. Then both are open: they seal and unseal in turn, and
 //! are closed. A refused call hands everything back as it was.
+#![tactic(auto)]
+
 ghost use Rattle.std.specs.Prelude.{◌≡◌};
 ghost use Rattle.channel.specs.Laws.{OutcomeLaws};
 

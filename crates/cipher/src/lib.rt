@@ -1,4 +1,6 @@
 //! What a block cipher means, and the guard that clears a lent workspace.
+#![tactic(auto)]
+
 ghost use Rattle.std.specs.Prelude.{◌≡◌, ℕ, ◌≤◌, List, length};
 ghost use Rattle.cipher.specs.Cipher.{prepared, enciphered, one_block};
 ghost use Rattle.cipher.specs.Workspace.{left};

@@ -1,4 +1,6 @@
 //! Worked examples of the definitions, under a single proof.
+#![tactic(auto)]
+
 ghost use Rattle.examples.specs.Examples.{Examples};
 
 /// The definitions give what was worked out by hand. It does nothing; its contract is the examples.

@@ -1,4 +1,6 @@
 //! Refusals. What breaks a rule is refused with a number, the layer that found it and a place.
+#![tactic(auto)]
+
 ghost use Rattle.std.specs.Prelude.{◌≡◌, Some};
 ghost use Rattle.fault.specs.Faults.{number_of, layer_of, host_fault, message_fault, handshake_fault, channel_fault};
 ghost use Rattle.fault.specs.Words.{layer_name, host_meaning, message_meaning, handshake_meaning, channel_meaning, meaning, sentence};

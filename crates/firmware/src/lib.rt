@@ -1,4 +1,6 @@
 //! What the mixer's C firmware calls: total functions on numbers and octet buffers.
+#![tactic(auto)]
+
 ghost use Rattle.std.specs.Prelude.{◌≡◌, ◌≤◌, length, drop};
 ghost use Rattle.std.specs.Int.Digits.{number_from_digits};
 ghost use Rattle.cipher.specs.Workspace.{left};

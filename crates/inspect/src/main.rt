@@ -2,6 +2,8 @@
 //!
 //! Reads the file named as its argument, else standard input: one message a line, as the awaited kind, the protocol
 //! identifier and the octets in hexadecimal.
+#![tactic(auto)]
+
 use capture::{Captured, Line, Problem};
 use message::{Kind, Message};
 use std::io::Read;

@@ -2,7 +2,7 @@
 use Rattle.std.proofs.Common.{◌≡◌, ℕ, suc, ◌+◌, ◌-◌, ◌*◌, ◌/◌, ◌<◌, ◌≤◌, List, [], ◌∷◌, ◌++◌, length, take, drop, set, replicate, sym, refl, ap, ◌∙◌, add-one, arith, length-drop}
 use borrow.Rule.Slice.PartMut.{post_of}
 use Rattle.std.proofs.lemmas.List.{set_at, drop-replicate, take_all}
-use Rattle.keyed.specs.Xcbc.{xors, block, before, chain, padded, closed, key1, key2, key3, result}
+use Rattle.keyed.specs.Xcbc.{xors, block, before, chain, padded, closed, key1, key2, key3, keyed_result}
 
 -- a short block written over zeros, and the octet 80 hexadecimal after it
 pub pad_is : (l b : List ℕ) → length l < 16 → b ≡ l → set (b ++ post_of 0 (length l - 0) (replicate 16 0)) (length l) 0x80 ≡ padded l
@@ -34,8 +34,8 @@ last_block m j e =
 pub result-is :
     (e : List ℕ → List ℕ → List ℕ) (k m : List ℕ) (n j : ℕ) (f g : List ℕ → List ℕ) {k1 k2 k3 s x r : List ℕ} →
     f ≡ e k → k1 ≡ f (replicate 16 1) → k2 ≡ f (replicate 16 2) → k3 ≡ f (replicate 16 3) →
-    g ≡ e k1 → n ≡ before m → j ≡ length m - 16 * n → s ≡ chain g m n → x ≡ closed k2 k3 s (take j (drop (16 * n) m)) → r ≡ g x → r ≡ result e k m
-unfolding result key1 key2 key3
+    g ≡ e k1 → n ≡ before m → j ≡ length m - 16 * n → s ≡ chain g m n → x ≡ closed k2 k3 s (take j (drop (16 * n) m)) → r ≡ g x → r ≡ keyed_result e k m
+unfolding keyed_result key1 key2 key3
 result-is e k m n j f g ef e1 e2 e3 eg en ej es ex er =
     let jj : j ≡ length m - 16 * before m = ej ∙ ap (λ i. length m - 16 * i) en in
     let t = last_block m j jj in

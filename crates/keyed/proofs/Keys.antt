@@ -4,7 +4,7 @@ use Rattle.std.specs.List.{range_with_len}
 use Rattle.std.specs.Int.Digits.{number_from_digits}
 use Rattle.std.proofs.lemmas.List.FromFn.{fill_by_all}
 use Rattle.keyed.specs.declared.derivation.SessionKeys.{SessionKeys}
-use Rattle.keyed.specs.Xcbc.{result}
+use Rattle.keyed.specs.Xcbc.{keyed_result}
 use Rattle.keyed.specs.Derivation.{split, seed, master_string, master_key, encryption_string, encryption_key, integrity_string, integrity_key, counter_string, first_counter, derived}
 
 -- sixteen octets and what each counts for, the highest first
@@ -23,8 +23,8 @@ weighed_number b h =
 
 pub derived-is :
     (e : List ℕ → List ℕ → List ℕ) (na nb ida idb z : List ℕ) (n : ℕ) {s d mk ke ki b : List ℕ} →
-    s ≡ split na nb → d ≡ result e s z → mk ≡ result e d (s ++ ida ++ idb ++ 1 ∷ []) → ke ≡ result e d (mk ++ s ++ ida ++ idb ++ 2 ∷ []) →
-    ki ≡ result e d (ke ++ s ++ ida ++ idb ++ 3 ∷ []) → b ≡ result e mk (counter_string ki na nb) → length b ≡ 16 → n ≡ weighed b →
+    s ≡ split na nb → d ≡ keyed_result e s z → mk ≡ keyed_result e d (s ++ ida ++ idb ++ 1 ∷ []) → ke ≡ keyed_result e d (mk ++ s ++ ida ++ idb ++ 2 ∷ []) →
+    ki ≡ keyed_result e d (ke ++ s ++ ida ++ idb ++ 3 ∷ []) → b ≡ keyed_result e mk (counter_string ki na nb) → length b ≡ 16 → n ≡ weighed b →
     ◌≡◌ {A = SessionKeys} (record { master = mk; encryption = ke; integrity = ki; counter = n }) (derived e na nb ida idb z)
 unfolding seed master_string master_key encryption_string encryption_key integrity_string integrity_key first_counter
 derived-is e na nb ida idb z n es ed em ee ei eb l en = let w = weighed_number _ l in cc

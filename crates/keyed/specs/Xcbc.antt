@@ -38,9 +38,9 @@ unfoldable pub key3 : (List ℕ → List ℕ → List ℕ) → List ℕ → List
 key3 e k = e k (replicate 16 3)
 
 -- result(K, M): the sixteen octets of the message m under the key k
-unfoldable pub result : (List ℕ → List ℕ → List ℕ) → List ℕ → List ℕ → List ℕ
-result e k m = e (key1 e k) (closed (key2 e k) (key3 e k) (chain (e (key1 e k)) m (before m)) (block m (before m)))
+unfoldable pub keyed_result : (List ℕ → List ℕ → List ℕ) → List ℕ → List ℕ → List ℕ
+keyed_result e k m = e (key1 e k) (closed (key2 e k) (key3 e k) (chain (e (key1 e k)) m (before m)) (block m (before m)))
 
 -- the tag of the message m under the key k: the first twelve octets of its result
 unfoldable pub tag : (List ℕ → List ℕ → List ℕ) → List ℕ → List ℕ → List ℕ
-tag e k m = take 12 (result e k m)
+tag e k m = take 12 (keyed_result e k m)

@@ -2,7 +2,7 @@
 ghost use Rattle.std.specs.Prelude.{◌≡◌, ◌≤◌, ◌++◌, length, drop};
 ghost use Rattle.cipher.specs.Cipher.{E};
 ghost use Rattle.keyed.specs.Derivation.{split, counter_string, derived};
-ghost use Rattle.keyed.specs.Xcbc.{result};
+ghost use Rattle.keyed.specs.Xcbc.{keyed_result};
 
 use crate::parts::{result_of, write};
 use crate::xcbc::result;
@@ -33,7 +33,7 @@ pub struct SessionKeys {
 
 /// S: the first eight octets of each nonce.
 fn split_nonces(nonces: &Nonces) -> [u8; 16]
-    ensures* value { λ r. ⌜ r ≡ split nonces.now.fob nonces.now.mixer ⌝ }
+    ensures value { result ≡ split nonces.now.fob nonces.now.mixer }
 {
     let mut octets = [0; 16];
     let Nonces { fob, mixer } = nonces;
@@ -51,8 +51,8 @@ fn next_key<'a, C: BlockCipher>(
     workspace: &mut [u8],
 ) -> [u8; 16]
     requires { (length previous.now ≤ 16) × (256 ≤ length workspace.old) }
-    ensures* value { λ r. ⌜ r ≡ result (E C.BlockCipher.schedule C.BlockCipher.worked) seed.now (previous.now ++ s.now ++ identities.now.fob ++ identities.now.mixer ++ last.now) ⌝ }
-    ensures* workspace { λ _. ⌜ drop 256 workspace.new ≡ drop 256 workspace.old ⌝ }
+    ensures value { result ≡ keyed_result (E C.BlockCipher.schedule C.BlockCipher.worked) seed.now (previous.now ++ s.now ++ identities.now.fob ++ identities.now.mixer ++ last.now) }
+    ensures workspace { drop 256 workspace.new ≡ drop 256 workspace.old }
 {
     let Identities { fob, mixer } = identities;
     result_of::<C>(seed, &[previous, s, fob, mixer, last], workspace)
@@ -66,8 +66,8 @@ fn first_block<'a, C: BlockCipher>(
     workspace: &mut [u8],
 ) -> [u8; 16]
     requires { 256 ≤ length workspace.old }
-    ensures* value { λ r. ⌜ r ≡ result (E C.BlockCipher.schedule C.BlockCipher.worked) master.now (counter_string integrity.now nonces.now.fob nonces.now.mixer) ⌝ }
-    ensures* workspace { λ _. ⌜ drop 256 workspace.new ≡ drop 256 workspace.old ⌝ }
+    ensures value { result ≡ keyed_result (E C.BlockCipher.schedule C.BlockCipher.worked) master.now (counter_string integrity.now nonces.now.fob nonces.now.mixer) }
+    ensures workspace { drop 256 workspace.new ≡ drop 256 workspace.old }
 {
     let Nonces { fob, mixer } = nonces;
     result_of::<C>(master, &[integrity, fob, mixer, &[4]], workspace)
@@ -81,8 +81,8 @@ pub fn derive<C: BlockCipher>(
     workspace: &mut [u8],
 ) -> SessionKeys
     requires { 256 ≤ length workspace.old }
-    ensures* value { λ r. ⌜ r ≡ derived (E C.BlockCipher.schedule C.BlockCipher.worked) nonces.now.fob nonces.now.mixer identities.now.fob identities.now.mixer secret.now ⌝ }
-    ensures* workspace { λ _. ⌜ drop 256 workspace.new ≡ drop 256 workspace.old ⌝ }
+    ensures value { result ≡ derived (E C.BlockCipher.schedule C.BlockCipher.worked) nonces.now.fob nonces.now.mixer identities.now.fob identities.now.mixer secret.now }
+    ensures workspace { drop 256 workspace.new ≡ drop 256 workspace.old }
 {
     let s = split_nonces(nonces);
     let seed = result::<C>(&s, secret, workspace);

@@ -1,4 +1,6 @@
 //! What a session does with keys, over any block cipher: results and tags, the derivation of its keys, the confirmations of a handshake, and the keystream.
+#![tactic(auto)]
+
 mod confirm;
 mod counter_mode;
 mod derivation;

@@ -2,7 +2,7 @@
 ghost use Rattle.std.specs.Prelude.{◌≡◌, ◌≤◌, ◌++◌, length, drop};
 ghost use Rattle.cipher.specs.Cipher.{E};
 ghost use Rattle.keyed.specs.Parts.{joined};
-ghost use Rattle.keyed.specs.Xcbc.{result};
+ghost use Rattle.keyed.specs.Xcbc.{keyed_result};
 
 use crate::xcbc;
 use cipher::BlockCipher;
@@ -13,8 +13,8 @@ pub(crate) const LONGEST: usize = 71;
 /// Writes parts one after another at the start of `string`, and says how many octets they have.
 pub(crate) fn write(string: &mut [u8], parts: &[&[u8]]) -> usize
     requires { length (joined parts.now) ≤ length string.old }
-    ensures* value { λ r. ⌜ r ≡ length (joined parts.now) ⌝ }
-    ensures* output { λ _. ⌜ string.new ≡ joined parts.now ++ drop (length (joined parts.now)) string.old ⌝ }
+    ensures value { result ≡ length (joined parts.now) }
+    ensures output { string.new ≡ joined parts.now ++ drop (length (joined parts.now)) string.old }
 {
     let mut at = 0;
     for part in parts {
@@ -31,8 +31,8 @@ pub(crate) fn result_of<C: BlockCipher>(
     workspace: &mut [u8],
 ) -> [u8; 16]
     requires { (length (joined parts.now) ≤ 71) × (256 ≤ length workspace.old) }
-    ensures* value { λ r. ⌜ r ≡ result (E C.BlockCipher.schedule C.BlockCipher.worked) key.now (joined parts.now) ⌝ }
-    ensures* workspace { λ _. ⌜ drop 256 workspace.new ≡ drop 256 workspace.old ⌝ }
+    ensures value { result ≡ keyed_result (E C.BlockCipher.schedule C.BlockCipher.worked) key.now (joined parts.now) }
+    ensures workspace { drop 256 workspace.new ≡ drop 256 workspace.old }
 {
     let mut string = [0; LONGEST];
     let count = write(&mut string, parts);

@@ -2,14 +2,14 @@
 ghost use Rattle.std.specs.Prelude.{◌≡◌, ◌*◌, ◌<◌, ◌≤◌, length, drop};
 ghost use Rattle.std.specs.Str.{bytes_eq};
 ghost use Rattle.cipher.specs.Cipher.{E, enciphered};
-ghost use Rattle.keyed.specs.Xcbc.{xors, chain, padded, closed, result, tag};
+ghost use Rattle.keyed.specs.Xcbc.{xors, chain, padded, closed, keyed_result, tag};
 
 use cipher::BlockCipher;
 
 /// The exclusive or of a block, as it lies in a message, and another.
 fn xor(a: &[u8], b: &[u8; 16]) -> [u8; 16]
     requires { length a.now ≡ 16 }
-    ensures* value { λ r. ⌜ r ≡ xors a.now b.now ⌝ }
+    ensures value { result ≡ xors a.now b.now }
 {
     let mut sum = [0; 16];
     for i in 0..16 {
@@ -21,7 +21,7 @@ fn xor(a: &[u8], b: &[u8; 16]) -> [u8; 16]
 /// A block that is not full, with its padding.
 fn pad(last: &[u8]) -> [u8; 16]
     requires { length last.now < 16 }
-    ensures* value { λ r. ⌜ r ≡ padded last.now ⌝ }
+    ensures value { result ≡ padded last.now }
 {
     let mut block = [0; 16];
     block[0..last.len()].copy_from_slice(last);
@@ -32,7 +32,7 @@ fn pad(last: &[u8]) -> [u8; 16]
 /// What is enciphered last: the last block, the chain before it, and the key for a full block or for a padded one.
 fn close(last: &[u8], state: &[u8; 16], full: &[u8; 16], short: &[u8; 16]) -> [u8; 16]
     requires { length last.now ≤ 16 }
-    ensures* value { λ r. ⌜ r ≡ closed full.now short.now state.now last.now ⌝ }
+    ensures value { result ≡ closed full.now short.now state.now last.now }
 {
     if last.len() == 16 {
         xor(&xor(last, state), full)
@@ -44,7 +44,7 @@ fn close(last: &[u8], state: &[u8; 16], full: &[u8; 16], short: &[u8; 16]) -> [u
 /// The chain after `count` blocks of a message, under the schedule that stands in the workspace.
 fn run<C: BlockCipher>(workspace: &[u8], message: &[u8], count: usize) -> [u8; 16]
     requires { 16 * count ≤ length message.now }
-    ensures* value { λ r. ⌜ r ≡ chain (enciphered C.BlockCipher.size C.BlockCipher.worked workspace.now) message.now count ⌝ }
+    ensures value { result ≡ chain (enciphered C.BlockCipher.size C.BlockCipher.worked workspace.now) message.now count }
 {
     let mut state = [0; 16];
     for i in 0..count {
@@ -57,8 +57,8 @@ fn run<C: BlockCipher>(workspace: &[u8], message: &[u8], count: usize) -> [u8; 1
 /// result(K, M): the sixteen octets that XCBC makes of a message of any length under a key.
 pub fn result<C: BlockCipher>(key: &[u8; 16], message: &[u8], workspace: &mut [u8]) -> [u8; 16]
     requires { 256 ≤ length workspace.old }
-    ensures* value { λ r. ⌜ r ≡ result (E C.BlockCipher.schedule C.BlockCipher.worked) key.now message.now ⌝ }
-    ensures* workspace { λ _. ⌜ drop 256 workspace.new ≡ drop 256 workspace.old ⌝ }
+    ensures value { result ≡ keyed_result (E C.BlockCipher.schedule C.BlockCipher.worked) key.now message.now }
+    ensures workspace { drop 256 workspace.new ≡ drop 256 workspace.old }
 {
     C::prepare(key, workspace);
     let k1 = C::encipher(workspace, &[1; 16]);
@@ -74,8 +74,8 @@ pub fn result<C: BlockCipher>(key: &[u8; 16], message: &[u8], workspace: &mut [u
 /// The tag of a message: the first twelve octets of its result.
 pub fn tag<C: BlockCipher>(key: &[u8; 16], message: &[u8], workspace: &mut [u8]) -> [u8; 12]
     requires { 256 ≤ length workspace.old }
-    ensures* value { λ r. ⌜ r ≡ tag (E C.BlockCipher.schedule C.BlockCipher.worked) key.now message.now ⌝ }
-    ensures* workspace { λ _. ⌜ drop 256 workspace.new ≡ drop 256 workspace.old ⌝ }
+    ensures value { result ≡ tag (E C.BlockCipher.schedule C.BlockCipher.worked) key.now message.now }
+    ensures workspace { drop 256 workspace.new ≡ drop 256 workspace.old }
 {
     let full = result::<C>(key, message, workspace);
     let mut short = [0; 12];
@@ -91,15 +91,15 @@ pub fn tag_matches<C: BlockCipher>(
     workspace: &mut [u8],
 ) -> bool
     requires { 256 ≤ length workspace.old }
-    ensures* value { λ r. ⌜ r ≡ bytes_eq (tag (E C.BlockCipher.schedule C.BlockCipher.worked) key.now message.now) octets.now ⌝ }
-    ensures* workspace { λ _. ⌜ drop 256 workspace.new ≡ drop 256 workspace.old ⌝ }
+    ensures value { result ≡ bytes_eq (tag (E C.BlockCipher.schedule C.BlockCipher.worked) key.now message.now) octets.now }
+    ensures workspace { drop 256 workspace.new ≡ drop 256 workspace.old }
 {
     same(&tag::<C>(key, message, workspace), octets)
 }
 
 /// Whether these octets are the expected tag. The comparison goes through all twelve, whatever it meets.
 fn same(expected: &[u8; 12], octets: &[u8]) -> bool
-    ensures* value { λ r. ⌜ r ≡ bytes_eq expected.now octets.now ⌝ }
+    ensures value { result ≡ bytes_eq expected.now octets.now }
 {
     if octets.len() != 12 {
         return false;

@@ -1,4 +1,6 @@
 //! Key lookups: an own label, and for each peer's label a secret or the word that it is invalid.
+#![tactic(auto)]
+
 ghost use Rattle.std.specs.Prelude.{◌≡◌, ℕ, List, length};
 ghost use Rattle.std.specs.Str.{bytes_eq};
 ghost use Rattle.lookup.specs.declared.Reply.{Reply};

@@ -1,4 +1,6 @@
 //! Callers of the key lookups, and runs of them on examples.
+#![tactic(auto)]
+
 ghost use Rattle.std.specs.Prelude.{◌≡◌, drop, MatchResult};
 ghost use Rattle.fault.specs.Faults.{host_fault};
 ghost use Rattle.fault.specs.declared.HostCause.TheVariants.{OwnKey};

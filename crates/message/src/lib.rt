@@ -3,6 +3,8 @@
 //! Octet 0 is the kind, octet 1 the protocol identifier (PID), octet 2 a map of the fields; then come only the
 //! fields whose bit stands in the map, lowest bit first: bit 0 a label of 25 octets, bit 1 a nonce of 12, bit 2 a
 //! number of 3, bit 3 a length of 3 and as many data octets, bit 4 a tag of 12. Numbers have their highest octet first.
+#![tactic(auto)]
+
 ghost use Rattle.std.specs.Prelude.{◌≡◌, ℕ, ◌+◌, ◌≤◌, false, List, ◌++◌, length, take, drop, Ok, Err, MatchOption, MatchResult};
 ghost use Rattle.message.specs.Layout.{known, kind_number, kind_name, of_kind, map_of, number_at};
 ghost use Rattle.message.specs.Reading.{refused, shaped, checked, viewed, Sized, fields_at};

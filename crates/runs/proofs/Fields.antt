@@ -2,7 +2,7 @@
 use Rattle.std.proofs.Common.{◌≡◌, ℕ, ◌+◌, ◌*◌, ◌/◌, ◌%◌, ◌^◌, ◌<◌, ◌≤◌, List, length, take, Ok, Result, ap, ◌∙◌, arith}
 use Rattle.std.proofs.lemmas.List.{length-append, length-take-le}
 use Rattle.fault.specs.declared.Fault.{Fault}
-use Rattle.keyed.specs.Xcbc.{result, tag}
+use Rattle.keyed.specs.Xcbc.{keyed_result, tag}
 use Rattle.message.specs.declared.Direction.{Direction}
 use Rattle.message.specs.declared.Kind.TheVariants.{Act, Verify, Enc}
 use Rattle.message.specs.Layout.{kind_number, number_at}
@@ -15,13 +15,13 @@ use Rattle.runs.specs.Unaltered.{Blocks}
 use Rattle.channel.proofs.Checks.{written-take}
 
 -- a cipher of whole blocks makes tags of twelve octets
-result_16 : (e : List ℕ → List ℕ → List ℕ) → Blocks e → (k m : List ℕ) → length (result e k m) ≡ 16
-unfolding result
+result_16 : (e : List ℕ → List ℕ → List ℕ) → Blocks e → (k m : List ℕ) → length (keyed_result e k m) ≡ 16
+unfolding keyed_result
 result_16 e h k m = h _ _
 
 pub tag_12 : (e : List ℕ → List ℕ → List ℕ) → Blocks e → (k m : List ℕ) → length (tag e k m) ≡ 12
 unfolding tag
-tag_12 e h k m = length-take-le 12 (result e k m) (omega (arith, result_16 e h k m))
+tag_12 e h k m = length-take-le 12 (keyed_result e k m) (omega (arith, result_16 e h k m))
 
 -- m is accepted as a message of kind number k, and holds the label q and the nonce n
 pub record Acts (k pid : ℕ) (m q n : List ℕ) : Type 0 where

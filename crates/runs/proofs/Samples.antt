@@ -3,7 +3,7 @@ use Rattle.std.proofs.Common.{◌≡◌, ℕ, ◌+◌, ◌*◌, ◌%◌, ◌^◌
 use Rattle.keyed.specs.Derivation.{split, seed, master_string, master_key, encryption_string, encryption_key, integrity_string, integrity_key, counter_string, first_counter}
 use Rattle.keyed.specs.Keystream.{counter_block, streamed, xored}
 use Rattle.keyed.specs.Strings.{confirmation, three, packet}
-use Rattle.keyed.specs.Xcbc.{xors, chain, padded, closed, key1, key2, key3, result, tag}
+use Rattle.keyed.specs.Xcbc.{xors, chain, padded, closed, key1, key2, key3, keyed_result, tag}
 use Rattle.lookup.specs.declared.Reply.TheVariants.{Secret}
 use Rattle.channel.specs.declared.Role.TheVariants.{Fob as AtFob, Mixer as AtMixer}
 use Rattle.runs.specs.History.{Call, invite, answer, prove, confirm, finish, seal, unseal, history}
@@ -61,7 +61,7 @@ run calls = record {
 }
 
 pub as_sent : SomeRun
-unfolding history run handshake reply toy mixed counter_block streamed xored xors chain padded closed key1 key2 key3 result tag split seed master_string master_key encryption_string encryption_key integrity_string integrity_key counter_string first_counter confirmation three packet
+unfolding history run handshake reply toy mixed counter_block streamed xored xors chain padded closed key1 key2 key3 keyed_result tag split seed master_string master_key encryption_string encryption_key integrity_string integrity_key counter_string first_counter confirmation three packet
 as_sent =
     let r : Run = run (handshake 5 ++ reply) in
     let h = history r.pid r.cipher r.lookups r.fob tt r.mixer tt r.calls in
@@ -76,7 +76,7 @@ as_sent =
     }
 
 pub altered : SomeRunAltered
-unfolding history run handshake toy mixed counter_block streamed xored xors chain padded closed key1 key2 key3 result tag split seed master_string master_key encryption_string encryption_key integrity_string integrity_key counter_string first_counter confirmation three packet
+unfolding history run handshake toy mixed counter_block streamed xored xors chain padded closed key1 key2 key3 keyed_result tag split seed master_string master_key encryption_string encryption_key integrity_string integrity_key counter_string first_counter confirmation three packet
 altered =
     let r : Run = run (handshake 6) in
     let h = history r.pid r.cipher r.lookups r.fob tt r.mixer tt r.calls in

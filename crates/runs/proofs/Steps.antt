@@ -4,7 +4,7 @@ use Rattle.keyed.specs.declared.derivation.Identities.{Identities}
 use Rattle.keyed.specs.Derivation.{split, master_key, encryption_key, integrity_key, first_counter}
 use Rattle.keyed.specs.Keystream.{moved}
 use Rattle.keyed.specs.Strings.{confirmation, packet}
-use Rattle.keyed.specs.Xcbc.{result, tag}
+use Rattle.keyed.specs.Xcbc.{keyed_result, tag}
 use Rattle.channel.specs.declared.Role.{Role}
 use Rattle.channel.specs.declared.Role.TheVariants.{Fob as AtFob, Mixer as AtMixer}
 use Rattle.runs.specs.History.{Event, offers, reads, proves, opens, sends, accepts, seals, unseals, Entry, ◌did◌}
@@ -39,7 +39,7 @@ module _ {C K L : Type 0} (m : Setting C K L) where
             (integrities-same (ke m s) (ke m t) s.na s.nb s.identities.fob s.identities.mixer t.na t.nb t.identities.fob t.identities.mixer k b),
       )
     where
-      ap-result : {k k' t t' : Octets} → k ≡ k' → t ≡ t' → result m.cipher k t ≡ result m.cipher k' t'
+      ap-result : {k k' t t' : Octets} → k ≡ k' → t ≡ t' → keyed_result m.cipher k t ≡ keyed_result m.cipher k' t'
       ap-result e f = cc
 
   ki_not_mk : (s t : Inputs) {A : Type 0} → Derived m s → Derived m t → ki m s ≡ mk m t → A

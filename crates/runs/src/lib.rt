@@ -1,4 +1,6 @@
 //! Histories of a fob and a mixer, and the law that every one of them obeys.
+#![tactic(auto)]
+
 ghost use Rattle.runs.specs.Law.{LawOfRuns};
 ghost use Rattle.runs.specs.Some.{SomeRun, SomeRunAltered};
 ghost use Rattle.runs.specs.Unaltered.{OpensUnaltered, PassesUnaltered, EndsAtLast};

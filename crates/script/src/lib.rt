@@ -1,6 +1,8 @@
 //! Scripts of a simulation, one statement a line.
 //!
 //! An empty line, and one whose first word begins with `#`, holds nothing.
+#![tactic(auto)]
+
 ghost use Rattle.std.specs.Prelude.{◌≡◌, IfOk};
 ghost use Rattle.script.specs.Lines.{viewed, meaning};
 ghost use Rattle.script.specs.Expected.{words_of};

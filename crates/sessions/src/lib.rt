@@ -1,4 +1,6 @@
 //! Sessions over an air that alters nothing: a fob and a mixer that are given each other's messages open, and pass payloads.
+#![tactic(auto)]
+
 mod handshake;
 mod unaltered;
 

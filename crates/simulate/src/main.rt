@@ -1,6 +1,8 @@
 //! Runs a script: one fob and one mixer make the calls that it writes, and what both ends do is shown.
 //!
 //! Reads the file named as its argument, else standard input; `help` as the argument prints a help text.
+#![tactic(auto)]
+
 use std::io::Read;
 use std::{env, fs};
 

@@ -1,4 +1,6 @@
 //! The simulation: a real fob and a real mixer, driven through calls in any order, and the law that holds of every run.
+#![tactic(auto)]
+
 mod packets;
 mod passing;
 mod record;

@@ -1,4 +1,6 @@
 //! Speck128/128: a block cipher of 32 rounds on two words of 64 bits.
+#![tactic(auto)]
+
 ghost use Rattle.std.specs.Prelude.{◌≡◌, ◌+◌, ◌*◌, ◌≤◌, ◌++◌, length};
 ghost use Rattle.std.proofs.Math.Path.{refl};
 ghost use Rattle.cipher.specs.Cipher.{prepared};

@@ -1,5 +1,7 @@
 //! Compares the compiled code with published figures and with whole sessions of an independent implementation. A figure that
 //! differs ends it with status 1.
+#![tactic(auto)]
+
 use aes::Aes;
 use anyhow::anyhow;
 use cipher::{BlockCipher, WORKSPACE};

@@ -10,5 +10,5 @@ zeroed z w e h = cond_above (length w) 256 w (cleared w) (z ++ drop 256 w) h (ap
 
 pub returns : goal.returns
 returns c = record {
-  workspace = zeroed _ c.args.workspace.now c.copy-from-slice.ensures.after (omega arith);
+  workspace = zeroed _ c.args.workspace.now c.copy_from_slice.ensures.after (omega arith);
 }

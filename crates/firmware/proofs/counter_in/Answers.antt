@@ -8,4 +8,4 @@ read : (o h : List ℕ) (n : ℕ) → length o ≡ 16 → h ≡ o → n ≡ weig
 read o h n l e w = w ∙ ap weighed e ∙ weighed_number o l
 
 pub returns : goal.returns
-returns c = record { value = read c.args.octets.now _ _ c.requires c.copy-from-slice.ensures.after c.from-be-bytes.ensures }
+returns c = record { value = read c.args.octets.now _ _ c.requires c.copy_from_slice.ensures.after c.from_be_bytes.ensures }

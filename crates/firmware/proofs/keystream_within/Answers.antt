@@ -18,7 +18,7 @@ pub returns : goal.returns
 returns c = record {
   value = grind (arith, nat_tests);
   output = whole c.args.key.now c.args.counter.now c.args.data.now c.args.output.now _ _ _ c.keystream-moved.ensures.keeps_length
-      (omega arith) c.copy-from-slice.ensures.after c.counter-in.ensures.value
+      (omega arith) c.copy_from_slice.ensures.after c.counter_in.ensures.value
       c.keystream-moved.ensures.output;
   workspace = c.keystream-moved.ensures.workspace;
 }

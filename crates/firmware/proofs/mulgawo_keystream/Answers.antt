@@ -5,8 +5,8 @@ use Rattle.firmware.proofs.mulgawo_keystream.Goals as goal
 
 pub returns : goal.returns
 returns c = record {
-  value = c.keystream-within.ensures.value;
-  output = c.keystream-within.ensures.output;
-  workspace = left_after c.args.workspace.now c.keystream-within.new.workspace _ (omega arith) (search rules)
-      c.keystream-within.ensures.workspace c.drop-guard.ensures.workspace;
+  value = c.keystream_within.ensures.value;
+  output = c.keystream_within.ensures.output;
+  workspace = left_after c.args.workspace.now c.keystream_within.new.workspace _ (omega arith) (search rules)
+      c.keystream_within.ensures.workspace c.drop-guard.ensures.workspace;
 }

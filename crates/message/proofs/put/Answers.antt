@@ -10,6 +10,6 @@ returns c =
     let n = c.args.n in
     record {
       output = laid c.args.head.now c.args.middle.now c.args.last.now c.args.output.now h (h - 0) (h + m - h) (h + m) (n - (h + m)) n
-          c.copy-from-slice.ensures.after c.copy-from-slice-2.ensures.after c.copy-from-slice-3.ensures.after
+          c.copy_from_slice.ensures.after c.copy_from_slice-2.ensures.after c.copy_from_slice-3.ensures.after
           refl (omega arith) (omega arith) (omega arith) (omega arith);
     }

@@ -10,5 +10,5 @@ word_is s o i n r en eo er = er ∙ ap number (eo ∙ ap (λ m. take m (drop (8 
 pub returns : goal.returns
 unfolding number
 returns c = record {
-  value = word_is c.args.from.now c.copy-from-slice.new.self c.args.i _ c.from-be-bytes.result (omega arith) c.copy-from-slice.ensures.after c.from-be-bytes.ensures;
+  value = word_is c.args.from.now c.copy_from_slice.new.self c.args.i _ c.from_be_bytes.result (omega arith) c.copy_from_slice.ensures.after c.from_be_bytes.ensures;
 }

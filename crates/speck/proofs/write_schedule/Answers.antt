@@ -13,9 +13,9 @@ unfolding octets
 loop-round-preserved c =
     let i = c.loop-round.round in
     let w = c.read-state.result in (
-      rounds_more (λ j. j) i i w c.loop-round.state c.after-round-state.result c.loop-round.invariant.0 refl c.after-round-state.ensures.value,
-      keys_more w c.loop-round.state i _ c.args.workspace.now c.loop-round.workspace c.copy-from-slice.new.self
-          c.loop-round.invariant.0 c.loop-round.invariant.1 (c.copy-from-slice.ensures.after ∙ c.to-be-bytes.ensures) (omega arith),
+      rounds_more (λ j. j) i i w c.loop-round.state c.after_round-state.result c.loop-round.invariant.0 refl c.after_round-state.ensures.value,
+      keys_more w c.loop-round.state i _ c.args.workspace.now c.loop-round.workspace c.copy_from_slice.new.self
+          c.loop-round.invariant.0 c.loop-round.invariant.1 (c.copy_from_slice.ensures.after ∙ c.to_be_bytes.ensures) (omega arith),
     )
 
 pub returns : goal.returns

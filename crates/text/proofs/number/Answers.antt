@@ -6,21 +6,21 @@ use Rattle.text.specs.Words.{decimal_value}
 use Rattle.text.proofs.Digits.{digit_at, room}
 use Rattle.text.proofs.number.Goals as goal
 
-pub overflow-mul-value : goal.overflow-mul-value
-overflow-mul-value c = let r = room c.loop-b.value c.loop-b.b-index 0 c.loop-b.invariant.1 (omega arith) (omega arith) in omega arith
+pub overflow_mul-value : goal.overflow_mul-value
+overflow_mul-value c = let r = room c.loop-b.value c.loop-b.b-index 0 c.loop-b.invariant.1 (omega arith) (omega arith) in omega arith
 
-pub overflow-sub-b : goal.overflow-sub-b
-overflow-sub-b c = (digit_at c.args.word.now _ c.run-of.ensures.value c.if-run-of-word.false c.loop-b.b-index c.loop-b-test.true).0
+pub overflow_sub-b : goal.overflow_sub-b
+overflow_sub-b c = (digit_at c.args.word.now _ c.run_of.ensures.value c.if-run_of-word.false c.loop-b.b-index c.loop-b-test.true).0
 
-pub overflow-add-value : goal.overflow-add-value
-overflow-add-value c =
-    let d = digit_at c.args.word.now _ c.run-of.ensures.value c.if-run-of-word.false c.loop-b.b-index c.loop-b-test.true in
+pub overflow_add-value : goal.overflow_add-value
+overflow_add-value c =
+    let d = digit_at c.args.word.now _ c.run_of.ensures.value c.if-run_of-word.false c.loop-b.b-index c.loop-b-test.true in
     let r = room c.loop-b.value c.loop-b.b-index c.from.result c.loop-b.invariant.1 (omega arith) (omega arith) in
     omega arith
 
 pub loop-b-preserved : goal.loop-b-preserved
 loop-b-preserved c =
-    let d = digit_at c.args.word.now _ c.run-of.ensures.value c.if-run-of-word.false c.loop-b.b-index c.loop-b-test.true in
+    let d = digit_at c.args.word.now _ c.run_of.ensures.value c.if-run_of-word.false c.loop-b.b-index c.loop-b-test.true in
     let r = room c.loop-b.value c.loop-b.b-index c.from.result c.loop-b.invariant.1 (omega arith) (omega arith) in
     let f = fold_more (λ a b. a * 10 + (b - 48)) 0 c.args.word.now c.loop-b.b-index 0 c.loop-b-test.true in
     (omega (arith, f), r.1)

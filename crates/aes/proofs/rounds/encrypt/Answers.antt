@@ -8,15 +8,15 @@ more w s n = subst (λ (m : ℕ). full_round (rounds w s n) (round_key w m) ≡ 
 
 pub loop-n-preserved : goal.loop-n-preserved
 loop-n-preserved c =
-    c.full-round-next.ensures.value ∙ ap₂ full_round c.loop-n.invariant c.round-key-in-loop-n.ensures.value
+    c.full_round-next.ensures.value ∙ ap₂ full_round c.loop-n.invariant c.round_key-in-loop-n.ensures.value
     ∙ more c.args.schedule.now _ c.loop-n.n
 
 pub returns : goal.returns
 unfolding cipher
 returns c =
     let nine : c.loop-n.n ≡ 9 = omega arith in
-    let start = c.add-round-key-s.ensures.value ∙ ap₂ add_round_key c.load.ensures.value c.round-key.ensures.value in
+    let start = c.add_round_key-s.ensures.value ∙ ap₂ add_round_key c.load.ensures.value c.round_key.ensures.value in
     let state = c.loop-n.invariant ∙ ap₂ (rounds c.args.schedule.now) start nine in
     record {
-      value = c.unload.ensures.value ∙ ap output (c.last-round.ensures.value ∙ ap₂ last_round state c.round-key-2.ensures.value);
+      value = c.unload.ensures.value ∙ ap output (c.last_round.ensures.value ∙ ap₂ last_round state c.round_key-2.ensures.value);
     }

@@ -11,9 +11,9 @@ loop-i-preserved c =
     let i = c.loop-i.i in
     let key = c.args.key.now in
     let old = c.loop-i.schedule in
-    let four : length c.copy-from-slice.new.self ≡ 4 = search rules in
+    let four : length c.copy_from_slice.new.self ≡ 4 = search rules in
     let before = ap (λ (n : ℕ). take n old) (sub-zero (4 * i)) ∙ c.loop-i.invariant.1 in
-    let next = c.copy-from-slice.ensures.after ∙ c.next-word-word.ensures.value ∙ ap (λ (w : List ℕ). next_word key w i) before in (
+    let next = c.copy_from_slice.ensures.after ∙ c.next_word-word.ensures.value ∙ ap (λ (w : List ℕ). next_word key w i) before in (
       search rules,
       take-put_mid (4 * i) _ old _ _ (omega arith) (omega arith) ∙ ap₂ (λ (w v : List ℕ). w ++ v) c.loop-i.invariant.1 next
           ∙ ap (words key) (sym (add-one i)),

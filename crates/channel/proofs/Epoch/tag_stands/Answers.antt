@@ -18,7 +18,7 @@ returns g c =
     let twelve : 9 + n + 12 - (9 + n) ≡ 12 = omega arith in
     let right = packet_tag e c.args.self.now (number_at m 3) (data_in m) in
     record {
-      value = c.tag-matches.ensures.value ∙ ap (λ v. bytes_eq (tag e ki v) (take (9 + n + 12 - (9 + n)) (drop (9 + n) m))) string
+      value = c.tag_matches.ensures.value ∙ ap (λ v. bytes_eq (tag e ki v) (take (9 + n + 12 - (9 + n)) (drop (9 + n) m))) string
           ∙ ap (λ v. bytes_eq right (take v (drop (9 + n) m))) twelve ∙ ap (λ v. bytes_eq right (take 12 (drop (9 + v) m))) c.requires.0;
-      workspace = c.tag-matches.ensures.workspace;
+      workspace = c.tag_matches.ensures.workspace;
     }

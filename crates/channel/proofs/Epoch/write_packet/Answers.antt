@@ -21,13 +21,13 @@ returns g c =
     let long : length d ≡ n = keeps_length e x.keys.encryption x.keys.counter p in
     let ki = x.keys.integrity in
     let pid = c.pid.result in
-    let head = c.copy-from-slice.ensures.after ∙ c.enc-head.ensures.value in
+    let head = c.copy_from_slice.ensures.after ∙ c.enc_head.ensures.value in
     let body = filled e x.keys.encryption x.keys.counter p _ _ (search rules) c.keystream-counter.ensures.output in
     let over-all =
     tagged e pid m n ki d o 9 (9 + n - 9) c.args.number.fits long (omega arith) head body refl (omega arith) (9 + n - 3) (omega arith) c.tag-tag.ensures.value in
     let whole =
     packed e pid m n ki d o 9 (9 + n - 9) c.args.number.fits long (omega arith) head body refl (omega arith)
-    (9 + n + 12 - (9 + n)) over-all c.copy-from-slice-2.ensures.after (omega arith) in
+    (9 + n + 12 - (9 + n)) over-all c.copy_from_slice-2.ensures.after (omega arith) in
     record {
       value = search rules;
       output = whole ∙ ap (λ v. octets_of 5 v (enc m d (tag e ki (packet m d))) ++ drop (21 + n) o) c.pid.ensures.value

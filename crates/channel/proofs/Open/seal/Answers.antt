@@ -9,11 +9,11 @@ use Rattle.channel.proofs.Open.seal.Goals as goal
 
 pub returns : goal.returns
 returns g c =
-    let answer = c.seal-within.ensures.value ∙ sym (sized-passes 256 c.args.workspace.now _ (omega arith)) in
+    let answer = c.seal_within.ensures.value ∙ sym (sized-passes 256 c.args.workspace.now _ (omega arith)) in
     record {
       value = answer;
-      end = c.seal-within.ensures.end;
-      output = c.seal-within.ensures.output ∙ ap (λ v. written (21 + length c.args.payload.now) (λ _. sealed_packet (E g.C.BlockCipher.schedule g.C.BlockCipher.worked) g.C.BlockCipher.protocol c.args.self.now.epoch c.args.payload.now) v c.args.output.now) answer;
-      workspace = left_after c.args.workspace.now c.seal-within.new.workspace _ (omega arith) (search rules)
-          c.seal-within.ensures.workspace c.drop-guard.ensures.workspace;
+      end = c.seal_within.ensures.end;
+      output = c.seal_within.ensures.output ∙ ap (λ v. written (21 + length c.args.payload.now) (λ _. sealed_packet (E g.C.BlockCipher.schedule g.C.BlockCipher.worked) g.C.BlockCipher.protocol c.args.self.now.epoch c.args.payload.now) v c.args.output.now) answer;
+      workspace = left_after c.args.workspace.now c.seal_within.new.workspace _ (omega arith) (search rules)
+          c.seal_within.ensures.workspace c.drop-guard.ensures.workspace;
     }

@@ -10,11 +10,11 @@ use Rattle.channel.proofs.Open.unseal.Goals as goal
 
 pub returns : goal.returns
 returns g c =
-    let answer = c.unseal-within.ensures.value ∙ sym (sized-passes 256 c.args.workspace.now _ (omega arith)) in
+    let answer = c.unseal_within.ensures.value ∙ sym (sized-passes 256 c.args.workspace.now _ (omega arith)) in
     record {
       value = answer;
-      end = c.unseal-within.ensures.end;
-      output = c.unseal-within.ensures.output ∙ ap (λ v. written (number_at c.args.message.now 6) (λ _. crypted (E g.C.BlockCipher.schedule g.C.BlockCipher.worked) c.args.self.now.epoch (data_in c.args.message.now)) v c.args.output.now) answer;
-      workspace = left_after c.args.workspace.now c.unseal-within.new.workspace _ (omega arith) (search rules)
-          c.unseal-within.ensures.workspace c.drop-guard.ensures.workspace;
+      end = c.unseal_within.ensures.end;
+      output = c.unseal_within.ensures.output ∙ ap (λ v. written (number_at c.args.message.now 6) (λ _. crypted (E g.C.BlockCipher.schedule g.C.BlockCipher.worked) c.args.self.now.epoch (data_in c.args.message.now)) v c.args.output.now) answer;
+      workspace = left_after c.args.workspace.now c.unseal_within.new.workspace _ (omega arith) (search rules)
+          c.unseal_within.ensures.workspace c.drop-guard.ensures.workspace;
     }

@@ -6,7 +6,7 @@ use Rattle.channel.proofs.Proved.check.Goals as goal
 
 pub returns : goal.returns
 returns g c = record {
-  value = c.check-within.ensures.value ∙ sym (sized-passes 256 c.args.workspace.now _ (omega arith));
-  workspace = left_after c.args.workspace.now c.check-within.new.workspace _ (omega arith) (search rules)
-      c.check-within.ensures.workspace c.drop-guard.ensures.workspace;
+  value = c.check_within.ensures.value ∙ sym (sized-passes 256 c.args.workspace.now _ (omega arith));
+  workspace = left_after c.args.workspace.now c.check_within.new.workspace _ (omega arith) (search rules)
+      c.check_within.ensures.workspace c.drop-guard.ensures.workspace;
 }

@@ -23,7 +23,7 @@ loop-i-preserved g c =
     ] in
     let block : c.if-i-eq0.block ≡ f (counter_block ((n + i / 16) % 2 ^ 128)) =
     elim c.if-i-eq0.branch [
-      | then-i-eq0 w ↦ w.block-is ∙ due_block f n i c.loop-i.next w.if-i-eq0.true c.loop-i.invariant.0 w.to-be-bytes.ensures w.encipher-block.ensures.value
+      | then-i-eq0 w ↦ w.block-is ∙ due_block f n i c.loop-i.next w.if-i-eq0.true c.loop-i.invariant.0 w.to_be_bytes.ensures w.encipher-block.ensures.value
       | else-i-eq0 w ↦ w.block-is ∙ same_block f n i w.if-i-eq0.false c.loop-i.invariant.2
     ] in
     let whole : length c.if-i-eq0.block ≡ 16 =

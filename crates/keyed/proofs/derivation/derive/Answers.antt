@@ -8,10 +8,10 @@ pub returns : goal.returns
 returns g c = record {
   value =
       derived-is (E g.C.BlockCipher.schedule g.C.BlockCipher.worked) c.args.nonces.now.fob c.args.nonces.now.mixer c.args.identities.now.fob c.args.identities.now.mixer
-      c.args.secret.now c.from-be-bytes.result
-      c.split-nonces-s.ensures.value c.result-seed.ensures.value c.next-key-master.ensures.value c.next-key-encryption.ensures.value
-      c.next-key-integrity.ensures.value c.first-block-first.ensures.value (search rules) c.from-be-bytes.ensures;
+      c.args.secret.now c.from_be_bytes.result
+      c.split_nonces-s.ensures.value c.result-seed.ensures.value c.next_key-master.ensures.value c.next_key-encryption.ensures.value
+      c.next_key-integrity.ensures.value c.first_block-first.ensures.value (search rules) c.from_be_bytes.ensures;
   workspace =
-      c.first-block-first.ensures.workspace ∙ c.next-key-integrity.ensures.workspace ∙ c.next-key-encryption.ensures.workspace
-      ∙ c.next-key-master.ensures.workspace ∙ c.result-seed.ensures.workspace;
+      c.first_block-first.ensures.workspace ∙ c.next_key-integrity.ensures.workspace ∙ c.next_key-encryption.ensures.workspace
+      ∙ c.next_key-master.ensures.workspace ∙ c.result-seed.ensures.workspace;
 }

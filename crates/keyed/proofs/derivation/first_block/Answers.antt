@@ -4,12 +4,12 @@ use Rattle.std.proofs.lemmas.List.{append_assoc}
 use Rattle.keyed.specs.Derivation.{counter_string}
 use Rattle.keyed.proofs.derivation.first_block.Goals as goal
 
-pub result-of-requires : goal.result-of-requires
-result-of-requires g c = (simp length-append (omega arith), omega arith)
+pub result_of-requires : goal.result_of-requires
+result_of-requires g c = (simp length-append (omega arith), omega arith)
 
 pub returns : goal.returns
 unfolding counter_string
 returns g c = record {
-  value = c.result-of.ensures.value ∙ simp append_assoc;
-  workspace = c.result-of.ensures.workspace;
+  value = c.result_of.ensures.value ∙ simp append_assoc;
+  workspace = c.result_of.ensures.workspace;
 }

@@ -4,5 +4,5 @@ use Rattle.keyed.proofs.xcbc.pad.Goals as goal
 
 pub returns : goal.returns
 returns c = record {
-  value = pad_is c.args.last.now c.copy-from-slice.new.self c.requires c.copy-from-slice.ensures.after;
+  value = pad_is c.args.last.now c.copy_from_slice.new.self c.requires c.copy_from_slice.ensures.after;
 }

@@ -6,6 +6,6 @@ use Rattle.keyed.proofs.xcbc.tag.Goals as goal
 pub returns : goal.returns
 unfolding tag
 returns g c = record {
-  value = c.copy-from-slice.ensures.after ∙ ap (take 12) c.result-full.ensures.value;
+  value = c.copy_from_slice.ensures.after ∙ ap (take 12) c.result-full.ensures.value;
   workspace = c.result-full.ensures.workspace;
 }

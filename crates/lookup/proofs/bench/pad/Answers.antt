@@ -6,5 +6,5 @@ use Rattle.lookup.proofs.bench.pad.Goals as goal
 pub returns : goal.returns
 unfolding padded
 returns c =
-    let written : c.copy-from-slice.new.self ≡ octets_of c.args.number = search rules in
+    let written : c.copy_from_slice.new.self ≡ octets_of c.args.number = search rules in
     record { value = ap (λ (xs : List ℕ). replicate 20 0 ++ (xs ++ [])) written }

@@ -14,7 +14,7 @@ returns-in-Ok g c =
     let e : List ℕ → List ℕ → List ℕ = E g.C.BlockCipher.schedule g.C.BlockCipher.worked in
     let whole : Blocks e = let law = g.met.C.BlockCipher in λ k x. search (rules, law) in
     let u : Lookups g.row.K.Denot g.row.L.Denot = lookups g.K.KeyLookup.own g.K.KeyLookup.replies g.L.KeyLookup.own g.L.KeyLookup.replies in
-    let value : c.answer-to.result ≡ opened_both pid e u c.args.fob c.args.fob_key c.args.fob_nonce c.args.mixer c.args.mixer_key c.args.mixer_nonce = search rules in
+    let value : c.answer_to.result ≡ opened_both pid e u c.args.fob c.args.fob_key c.args.fob_nonce c.args.mixer c.args.mixer_key c.args.mixer_nonce = search rules in
     record {
       value = value;
       honest = λ h.

@@ -10,14 +10,14 @@ returns g c =
     let e : List ℕ → List ℕ → List ℕ = E g.C.BlockCipher.schedule g.C.BlockCipher.worked in
     let whole : Blocks e = λ k x. search rules in
     record {
-      value = c.pass-within.ensures.value;
-      sealer = c.pass-within.ensures.sealer;
-      unsealer = c.pass-within.ensures.unsealer;
+      value = c.pass_within.ensures.value;
+      sealer = c.pass_within.ensures.sealer;
+      unsealer = c.pass_within.ensures.unsealer;
       honest = λ h.
           let t = ready_through g.C.BlockCipher.protocol e whole c.args.sealer.now c.args.unsealer.now c.args.payload.now h in
           record {
-            came = c.pass-within.ensures.value ∙ t.came;
-            sealer = c.pass-within.ensures.sealer ∙ t.sealer;
-            unsealer = c.pass-within.ensures.unsealer ∙ t.unsealer;
+            came = c.pass_within.ensures.value ∙ t.came;
+            sealer = c.pass_within.ensures.sealer ∙ t.sealer;
+            unsealer = c.pass_within.ensures.unsealer ∙ t.unsealer;
           };
     }

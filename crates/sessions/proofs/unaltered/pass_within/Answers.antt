@@ -10,26 +10,26 @@ use Rattle.runs.specs.Unaltered.{Blocks}
 use Rattle.sessions.proofs.Payloads.{sealing-is, sealed_answer, seal-refused, seal-accepted, unsealed_answer, fits, came-out}
 use Rattle.sessions.proofs.unaltered.pass_within.Goals as goal
 
-pub returns-in-err-size : goal.returns-in-err-size
-returns-in-err-size g c =
+pub returns-in_err-size : goal.returns-in_err-size
+returns-in_err-size g c =
     let is = c.seal.ensures.value ∙ sealing-is c.args.sealer.now c.args.payload.now c.args.workspace.now c.args.packet.now (omega arith) (omega arith) in
     let y = err_from_is_err_and c.from-residual.result c.from-residual.ensures.1 in
     let k = seal-refused g.C.BlockCipher.protocol (E g.C.BlockCipher.schedule g.C.BlockCipher.worked)
-    c.args.sealer.now c.args.unsealer.now c.args.payload.now _ (sym is ∙ c.in-err-size.was) in
+    c.args.sealer.now c.args.unsealer.now c.args.payload.now _ (sym is ∙ c.in_err-size.was) in
     record {
       value = y.1 ∙ ap Err y.2 ∙ sym k.0;
       sealer = c.seal.ensures.end ∙ ap (seal_end c.args.sealer.now c.args.payload.now) is;
       unsealer = sym k.1;
     }
 
-pub returns-in-err-count : goal.returns-in-err-count
-returns-in-err-count g c =
+pub returns-in_err-count : goal.returns-in_err-count
+returns-in_err-count g c =
     let s = c.args.sealer.now in
     let r = c.args.unsealer.now in
     let p = c.args.payload.now in
     let w = c.args.workspace.now in
     let o = c.args.packet.now in
-    let n : ℕ = c.in-ok-size.size in
+    let n : ℕ = c.in_ok-size.size in
     let pid : ℕ = g.C.BlockCipher.protocol in
     let e : List ℕ → List ℕ → List ℕ = E g.C.BlockCipher.schedule g.C.BlockCipher.worked in
     let whole : Blocks e = λ k x. g.met.C.BlockCipher.blocks (g.C.BlockCipher.schedule k) x in
@@ -37,26 +37,26 @@ returns-in-err-count g c =
     let ho : length o ≡ 4117 = omega arith in
     let hw' : length c.seal.new.workspace ≡ 256 = omega arith in
     let ho' : length c.args.output.now ≡ 4096 = omega arith in
-    let ok = sym c.seal.ensures.value ∙ c.in-ok-size.was in
+    let ok = sym c.seal.ensures.value ∙ c.in_ok-size.was in
     let cut = ap (take (n - 0)) c.seal.ensures.output in
     let m : List ℕ = take (n - 0) c.seal.new.output in
     let k = seal-accepted pid e s r p n (sealed_answer pid e whole s r p w o n hw ho ok) in
     let t = c.unseal.ensures.value ∙ unsealed_answer pid e whole s r p w o n hw ho ok m c.seal.new.workspace c.args.output.now cut hw' ho' in
-    let y = err_from_is_err_and c.from-residual-in-err-count.result c.from-residual-in-err-count.ensures.1 in
+    let y = err_from_is_err_and c.from-residual-in_err-count.result c.from-residual-in_err-count.ensures.1 in
     record {
-      value = y.1 ∙ ap Err y.2 ∙ sym (k.0 ∙ ap (λ q. and_then q (Ok (came_out pid e s r p))) (sym t ∙ c.in-err-count.was));
+      value = y.1 ∙ ap Err y.2 ∙ sym (k.0 ∙ ap (λ q. and_then q (Ok (came_out pid e s r p))) (sym t ∙ c.in_err-count.was));
       sealer = c.seal.ensures.end ∙ ap (seal_end s p) (c.seal.ensures.value ∙ sealing-is s p w o hw ho);
       unsealer = c.unseal.ensures.end ∙ ap (unseal_end r) t ∙ sym k.1;
     }
 
-pub slice-bounds-same-end : goal.slice-bounds-same-end
-slice-bounds-same-end g c =
+pub slice_bounds-same-end : goal.slice_bounds-same-end
+slice_bounds-same-end g c =
     let s = c.args.sealer.now in
     let r = c.args.unsealer.now in
     let p = c.args.payload.now in
     let w = c.args.workspace.now in
     let o = c.args.packet.now in
-    let n : ℕ = c.in-ok-size.size in
+    let n : ℕ = c.in_ok-size.size in
     let pid : ℕ = g.C.BlockCipher.protocol in
     let e : List ℕ → List ℕ → List ℕ = E g.C.BlockCipher.schedule g.C.BlockCipher.worked in
     let whole : Blocks e = λ k x. g.met.C.BlockCipher.blocks (g.C.BlockCipher.schedule k) x in
@@ -64,12 +64,12 @@ slice-bounds-same-end g c =
     let ho : length o ≡ 4117 = omega arith in
     let hw' : length c.seal.new.workspace ≡ 256 = omega arith in
     let ho' : length c.args.output.now ≡ 4096 = omega arith in
-    let ok = sym c.seal.ensures.value ∙ c.in-ok-size.was in
+    let ok = sym c.seal.ensures.value ∙ c.in_ok-size.was in
     let cut = ap (take (n - 0)) c.seal.ensures.output in
     let m : List ℕ = take (n - 0) c.seal.new.output in
-    let v = sym c.unseal.ensures.value ∙ c.in-ok-count.was in
-    let f : c.in-ok-count.count ≤ 4096 =
-    fits pid e whole s r p w o n hw ho ok m c.seal.new.workspace c.args.output.now cut hw' ho' c.in-ok-count.count _ v in
+    let v = sym c.unseal.ensures.value ∙ c.in_ok-count.was in
+    let f : c.in_ok-count.count ≤ 4096 =
+    fits pid e whole s r p w o n hw ho ok m c.seal.new.workspace c.args.output.now cut hw' ho' c.in_ok-count.count _ v in
     omega arith
 
 pub returns : goal.returns
@@ -79,7 +79,7 @@ returns g c =
     let p = c.args.payload.now in
     let w = c.args.workspace.now in
     let o = c.args.packet.now in
-    let n : ℕ = c.in-ok-size.size in
+    let n : ℕ = c.in_ok-size.size in
     let pid : ℕ = g.C.BlockCipher.protocol in
     let e : List ℕ → List ℕ → List ℕ = E g.C.BlockCipher.schedule g.C.BlockCipher.worked in
     let whole : Blocks e = λ k x. g.met.C.BlockCipher.blocks (g.C.BlockCipher.schedule k) x in
@@ -87,17 +87,17 @@ returns g c =
     let ho : length o ≡ 4117 = omega arith in
     let hw' : length c.seal.new.workspace ≡ 256 = omega arith in
     let ho' : length c.args.output.now ≡ 4096 = omega arith in
-    let ok = sym c.seal.ensures.value ∙ c.in-ok-size.was in
+    let ok = sym c.seal.ensures.value ∙ c.in_ok-size.was in
     let cut = ap (take (n - 0)) c.seal.ensures.output in
     let m : List ℕ = take (n - 0) c.seal.new.output in
     let k = seal-accepted pid e s r p n (sealed_answer pid e whole s r p w o n hw ho ok) in
     let t = c.unseal.ensures.value ∙ unsealed_answer pid e whole s r p w o n hw ho ok m c.seal.new.workspace c.args.output.now cut hw' ho' in
-    let v = sym c.unseal.ensures.value ∙ c.in-ok-count.was in
-    let came = came-out pid e whole s r p w o n hw ho ok m c.seal.new.workspace c.args.output.now cut hw' ho' c.in-ok-count.count _ v in
+    let v = sym c.unseal.ensures.value ∙ c.in_ok-count.was in
+    let came = came-out pid e whole s r p w o n hw ho ok m c.seal.new.workspace c.args.output.now cut hw' ho' c.in_ok-count.count _ v in
     record {
       value =
-          ap Ok (c.same.ensures.value ∙ ap (λ x. bytes_eq (take (c.in-ok-count.count - 0) x) p) c.unseal.ensures.output ∙ came)
-          ∙ sym (k.0 ∙ ap (λ q. and_then q (Ok (came_out pid e s r p))) (sym t ∙ c.in-ok-count.was));
+          ap Ok (c.same.ensures.value ∙ ap (λ x. bytes_eq (take (c.in_ok-count.count - 0) x) p) c.unseal.ensures.output ∙ came)
+          ∙ sym (k.0 ∙ ap (λ q. and_then q (Ok (came_out pid e s r p))) (sym t ∙ c.in_ok-count.was));
       sealer = c.seal.ensures.end ∙ ap (seal_end s p) (c.seal.ensures.value ∙ sealing-is s p w o hw ho);
       unsealer = c.unseal.ensures.end ∙ ap (unseal_end r) t ∙ sym k.1;
     }

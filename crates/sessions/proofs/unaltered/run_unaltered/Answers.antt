@@ -17,11 +17,11 @@ returns-in-Ok g c =
     let whole : Blocks e = λ k x. search rules in
     let ps : List (List ℕ) = held c.args.payloads.now in
     let r : Result (Ended g.row.K.Denot g.row.L.Denot) (Unopened g.row.K.Denot g.row.L.Denot) =
-    Ok (record { passed = c.pass-all-passed.result; closed = c.close-closed.result }) in
-    let v : r ≡ thenPassed pid e ps c.open-both.result = search rules in
+    Ok (record { passed = c.pass_all-passed.result; closed = c.close-closed.result }) in
+    let v : r ≡ thenPassed pid e ps c.open_both.result = search rules in
     record {
-      value = v ∙ ap (thenPassed pid e ps) c.open-both.ensures.value;
+      value = v ∙ ap (thenPassed pid e ps) c.open_both.ensures.value;
       honest = λ h s most.
-          session-ends pid e whole c.args.fob_key c.args.mixer_key c.open-both.result ps (length c.args.payloads.now) r
-          (c.open-both.ensures.honest h) s (length-map c.args.payloads.now (λ (p : Bor (List ℕ)). p.now)) most v;
+          session-ends pid e whole c.args.fob_key c.args.mixer_key c.open_both.result ps (length c.args.payloads.now) r
+          (c.open_both.ensures.honest h) s (length-map c.args.payloads.now (λ (p : Bor (List ℕ)). p.now)) most v;
     }

@@ -9,10 +9,10 @@ use Rattle.simulation.proofs.sides.finish.Goals as goal
 pub returns-in-Ok : goal.returns-in-Ok
 returns-in-Ok g c =
     let h = c.in-Ok.ensures.value
-    ∙ at_same (λ m w o. finished g.C.BlockCipher.protocol (E g.C.BlockCipher.schedule g.C.BlockCipher.worked) c.in-Proved.proved m w) {o = c.as-slice.result.now} c.as-slice.ensures.value c.as-mut-slice.ensures.value refl in
+    ∙ at_same (λ m w o. finished g.C.BlockCipher.protocol (E g.C.BlockCipher.schedule g.C.BlockCipher.worked) c.in-Proved.proved m w) {o = c.as_slice.result.now} c.as_slice.ensures.value c.as_mut_slice.ensures.value refl in
     record {
       does = finish-does g.C.BlockCipher.protocol (E g.C.BlockCipher.schedule g.C.BlockCipher.worked) c.args.side c.in-Proved.proved (vec_items c.args.message) (vec_items c.args.workspace)
           c.in-Ok.end c.in-Ok.ticket c.accepts.result _ c.in-Proved.is h
-          (subst (Accepted c.accepts.result) c.as-slice-in-Ok.ensures.value c.accepts.ensures.value);
+          (subst (Accepted c.accepts.result) c.as_slice-in-Ok.ensures.value c.accepts.ensures.value);
       outcome = finish-tells g.C.BlockCipher.protocol (E g.C.BlockCipher.schedule g.C.BlockCipher.worked) c.args.side c.in-Proved.proved (vec_items c.args.message) (vec_items c.args.workspace) c.in-Ok.end c.in-Ok.ticket c.in-Proved.is h;
     }

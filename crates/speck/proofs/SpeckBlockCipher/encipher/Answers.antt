@@ -9,5 +9,5 @@ unfolding worked
 returns c =
     let w = c.args.workspace.now in
     let b = c.args.block.now in
-    let end : c.to-octets.result ≡ worked (take 256 w) b = simp (c.to-octets.ensures.value, c.after-rounds.ensures.value, c.read.ensures.value) in
+    let end : c.to_octets.result ≡ worked (take 256 w) b = simp (c.to_octets.ensures.value, c.after_rounds.ensures.value, c.read.ensures.value) in
     record { value = end ∙ sym (enciphered-full 256 worked (take 256 w) w b (omega arith) refl) }

@@ -9,6 +9,6 @@ unfolding round
 returns c =
     let x : c.args.self.x < 2 ^ 64 = search rules in
     let y : c.args.self.y < 2 ^ 64 = search rules in
-    let r : c.rotate-right.result ≡ rotated_right 8 c.args.self.x = c.rotate-right.ensures ∙ right_is c.args.self.x x in
-    let l : c.rotate-left.result ≡ rotated_left 3 c.args.self.y = c.rotate-left.ensures ∙ left_is c.args.self.y y in
+    let r : c.rotate_right.result ≡ rotated_right 8 c.args.self.x = c.rotate_right.ensures ∙ right_is c.args.self.x x in
+    let l : c.rotate_left.result ≡ rotated_left 3 c.args.self.y = c.rotate_left.ensures ∙ left_is c.args.self.y y in
     record { value = simp (r, l) }

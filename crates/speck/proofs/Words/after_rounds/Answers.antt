@@ -10,8 +10,8 @@ loop-i-init c = refl
 
 pub loop-i-preserved : goal.loop-i-preserved
 loop-i-preserved c =
-    rounds_more (λ j. word j c.args.keys.now) c.loop-i.i c.read-word.result c.args.self c.loop-i.state c.after-round-state.result
-    c.loop-i.invariant c.read-word.ensures.value c.after-round-state.ensures.value
+    rounds_more (λ j. word j c.args.keys.now) c.loop-i.i c.read_word.result c.args.self c.loop-i.state c.after_round-state.result
+    c.loop-i.invariant c.read_word.ensures.value c.after_round-state.ensures.value
 
 pub returns : goal.returns
 returns c =

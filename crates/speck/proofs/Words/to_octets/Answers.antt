@@ -6,6 +6,6 @@ use Rattle.speck.proofs.Words.to_octets.Goals as goal
 pub returns : goal.returns
 unfolding octets
 returns c =
-    let p : c.copy-from-slice.new.self ≡ octets c.args.self.x = c.copy-from-slice.ensures.after ∙ c.to-be-bytes.ensures in
-    let q : c.copy-from-slice-2.new.self ≡ octets c.args.self.y = c.copy-from-slice-2.ensures.after ∙ c.to-be-bytes-2.ensures in
+    let p : c.copy_from_slice.new.self ≡ octets c.args.self.x = c.copy_from_slice.ensures.after ∙ c.to_be_bytes.ensures in
+    let q : c.copy_from_slice-2.new.self ≡ octets c.args.self.y = c.copy_from_slice-2.ensures.after ∙ c.to_be_bytes-2.ensures in
     record { value = simp (p, q) }

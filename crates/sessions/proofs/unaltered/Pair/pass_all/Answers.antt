@@ -18,11 +18,11 @@ loop-i-preserved g c =
     let long : length ps ≡ length c.args.payloads.now = length-map c.args.payloads.now (λ (v : Bor (List ℕ)). v.now) in
     let i : ℕ = c.loop-i.i in
     let p : List ℕ = (get_or c.args.payloads.now i nothing).now in
-    going_next pid e c.args.self.now c.loop-i.self ps i c.loop-i.invariant c.pass-next.new.self p (omega arith)
-    (get_or-map (λ (v : Bor (List ℕ)). v.now) c.args.payloads.now i nothing [] c.loop-i-test.true) c.pass-next.ensures.end (sym c.pass-next.ensures.value ∙ c.if-not-pass-next.false)
+    going_next pid e c.args.self.now c.loop-i.self ps i c.loop-i.invariant c.pass_next.new.self p (omega arith)
+    (get_or-map (λ (v : Bor (List ℕ)). v.now) c.args.payloads.now i nothing [] c.loop-i-test.true) c.pass_next.ensures.end (sym c.pass_next.ensures.value ∙ c.if-not-pass_next.false)
 
-pub returns-then-not-pass-next : goal.returns-then-not-pass-next
-returns-then-not-pass-next g c =
+pub returns-then-not-pass_next : goal.returns-then-not-pass_next
+returns-then-not-pass_next g c =
     let pid : ℕ = g.C.BlockCipher.protocol in
     let e : List ℕ → List ℕ → List ℕ = E g.C.BlockCipher.schedule g.C.BlockCipher.worked in
     let ps : List (List ℕ) = held c.args.payloads.now in
@@ -30,12 +30,12 @@ returns-then-not-pass-next g c =
     let long : length ps ≡ length c.args.payloads.now = length-map c.args.payloads.now (λ (v : Bor (List ℕ)). v.now) in
     let i : ℕ = c.loop-i.i in
     let p : List ℕ = (get_or c.args.payloads.now i nothing).now in
-    let t = going-stops pid e c.args.self.now c.loop-i.self ps i c.loop-i.invariant c.pass-next.new.self p (omega arith)
-    (get_or-map (λ (v : Bor (List ℕ)). v.now) c.args.payloads.now i nothing [] c.loop-i-test.true) c.pass-next.ensures.end (sym c.pass-next.ensures.value ∙ c.if-not-pass-next.true) in
+    let t = going-stops pid e c.args.self.now c.loop-i.self ps i c.loop-i.invariant c.pass_next.new.self p (omega arith)
+    (get_or-map (λ (v : Bor (List ℕ)). v.now) c.args.payloads.now i nothing [] c.loop-i-test.true) c.pass_next.ensures.end (sym c.pass_next.ensures.value ∙ c.if-not-pass_next.true) in
     record {
       value = t.0;
       end = t.1;
-      honest = λ n h s. honest-all pid e whole c.args.self.now c.pass-next.new.self ps (length c.args.payloads.now) i long t n h (s);
+      honest = λ n h s. honest-all pid e whole c.args.self.now c.pass_next.new.self ps (length c.args.payloads.now) i long t n h (s);
     }
 
 pub returns : goal.returns
