@@ -1,15 +1,17 @@
 -- A packet that passed every test is accepted, and its data deciphered.
-use Rattle.std.proofs.Common.{◌≡◌, ℕ, ◌+◌, ◌<◌, ◌≤◌, true, ltb, leb, List, ◌++◌, length, take, drop, Ok, Result, sym, ap, ◌∙◌, arith}
+use Rattle.std.proofs.Common.{◌≡◌, ℕ, ◌+◌, ◌<◌, ◌≤◌, true, eqb, ltb, leb, List, ◌++◌, length, take, drop, Ok, Result, sym, ap, ◌∙◌, arith}
 use Rattle.std.specs.Str.{bytes_eq}
 use Rattle.std.proofs.lemmas.List.{take_all, length-drop, length-take-le}
-use Rattle.std.proofs.lemmas.Bool.{le-ltb, lt-leb, cond-true}
+use Rattle.std.proofs.lemmas.Bool.{le-ltb, lt-leb, ltb-false, eqb-true, cond-true}
 use Rattle.fault.specs.declared.Fault.{Fault}
 use Rattle.keyed.specs.Keystream.{xored, moved, over}
 use Rattle.keyed.proofs.Stream.{keeps_length}
 use Rattle.message.specs.Layout.{number_at}
 use Rattle.message.specs.Reading.{checked}
+use Rattle.message.proofs.Again.{was_checked, passed, went_on}
 use Rattle.channel.specs.declared.Epoch.{Epoch}
-use Rattle.channel.specs.Packets.{Fits, data_in, tag_of, packet_tag, packet_check}
+use Rattle.channel.specs.Packets.{data_in, tag_of, packet_tag}
+use Rattle.channel.specs.Within.{Fits, packet_check}
 use Rattle.channel.proofs.Checks.{unless-passes, and_then-passes}
 
 accepts : (e : List ℕ → List ℕ → List ℕ) (pid : ℕ) (p : Epoch) (m : List ℕ) → checked 5 pid m ≡ Ok tt → p.number < number_at m 3 → number_at m 3 ≤ p.number + 1
@@ -25,6 +27,16 @@ pub accepted : (e : List ℕ → List ℕ → List ℕ) (pid : ℕ) (p : Epoch) 
 accepted e pid p m n k a f g b c d =
     let whole : packet_check e pid p m ≡ Ok (number_at m 6, number_at m 3) = accepts e pid p m a (omega arith) (omega arith) d in
     ap (λ v. Ok (v, k)) f ∙ ap (λ v. Ok (number_at m 6, v)) g ∙ sym whole
+
+-- a packet that passed the check fits
+pub fitting : (pid : ℕ) (m : List ℕ) (n : ℕ) → checked 5 pid m ≡ Ok tt → n ≡ number_at m 6 → Fits m n
+fitting pid m n a f =
+    let h = was_checked 5 pid m a in
+    let q = went_on (ltb (length m) 9) _ _ h.lengths in
+    let r = went_on (ltb 4096 (number_at m 6)) _ _ q.1 in
+    let whole : length m ≡ 21 + number_at m 6 = eqb-true (length m) (21 + number_at m 6) (passed (eqb (length m) (21 + number_at m 6)) _ _ r.1).0 in
+    let small : number_at m 6 ≤ 4096 = ltb-false 4096 (number_at m 6) r.0 in
+    record { field = f; small = omega arith; whole = omega arith }
 
 -- the data of a packet, deciphered into an output that has room for it
 module _ (m o : List ℕ) (n q : ℕ) (h : Fits m n) (room : 4096 ≤ length o) (all : q ≡ n) where

@@ -50,13 +50,10 @@ invite_output pid own k n o = written 40 (λ u. octets_of 1 pid (act (own k) n.o
 
 module _ {C K : Type 0} (pid : ℕ) (e : List ℕ → List ℕ → List ℕ) (own : K → List ℕ) (replies : K → List ℕ → Reply) where
   -- answer: workspace, output of 40 octets, the check for kind 1, the label; ACT_RES with the own label and the nonce
-  abbrev pub answer_within : Mixer C → K → Nonce → (message output : List ℕ) → Result SessionKeys Fault
-  answer_within x k n m o =
-      sized 40 o (and_then (checked 1 pid m)
-      (secret_or (replies k (label_in m)) λ z. Ok (derived e (nonce_in m) n.octets x.identities.fob x.identities.mixer z)))
-
   abbrev pub answer_check : Mixer C → K → Nonce → (message workspace output : List ℕ) → Result SessionKeys Fault
-  answer_check x k n m w o = sized 256 w (answer_within x k n m o)
+  answer_check x k n m w o =
+      sized 256 w (sized 40 o (and_then (checked 1 pid m)
+      (secret_or (replies k (label_in m)) λ z. Ok (derived e (nonce_in m) n.octets x.identities.fob x.identities.mixer z))))
 
   abbrev pub to_answered : Mixer C → K → Nonce → List ℕ → SessionKeys → Answered C K
   to_answered x k n m s = record {
@@ -84,14 +81,11 @@ module _ {C K : Type 0} (pid : ℕ) (e : List ℕ → List ℕ → List ℕ) (ow
         (confirmation pid OfFob i.identities.fob i.identities.mixer (own i.key) (label_in m) i.nonce.octets (nonce_in m));
   }
 
-  abbrev pub prove_within : Invited C K → (message output : List ℕ) → Result Proof Fault
-  prove_within i m o =
-      sized 15 o (and_then (checked 2 pid m)
-      (secret_or (replies i.key (label_in m)) λ z.
-      Ok (proof_of i m (derived e i.nonce.octets (nonce_in m) i.identities.fob i.identities.mixer z))))
-
   abbrev pub prove_check : Invited C K → (message workspace output : List ℕ) → Result Proof Fault
-  prove_check i m w o = sized 256 w (prove_within i m o)
+  prove_check i m w o =
+      sized 256 w (sized 15 o (and_then (checked 2 pid m)
+      (secret_or (replies i.key (label_in m)) λ z.
+      Ok (proof_of i m (derived e i.nonce.octets (nonce_in m) i.identities.fob i.identities.mixer z)))))
 
   abbrev pub to_proved : Invited C K → List ℕ → Proof → Proved C K
   to_proved i m p = record {
@@ -130,13 +124,10 @@ module _ {K : Type 0} (pid : ℕ) where
 
 module _ {C K : Type 0} (pid : ℕ) (e : List ℕ → List ℕ → List ℕ) where
   -- confirm: workspace, output of 15 octets, the check for kind 3, the fob's tag; VFY_RES with the mixer's confirmation
-  abbrev pub confirm_within : Answered C K → (message output : List ℕ) → Result (List ℕ) Fault
-  confirm_within a m o =
-      sized 15 o (and_then (checked 3 pid m)
-      (cond (bytes_eq (confirmation_tag pid e OfFob a.session) (tag_in m)) (Ok (confirmation_tag pid e OfMixer a.session)) (Err (handshake_fault Tag 3))))
-
   abbrev pub confirm_check : Answered C K → (message workspace output : List ℕ) → Result (List ℕ) Fault
-  confirm_check a m w o = sized 256 w (confirm_within a m o)
+  confirm_check a m w o =
+      sized 256 w (sized 15 o (and_then (checked 3 pid m)
+      (cond (bytes_eq (confirmation_tag pid e OfFob a.session) (tag_in m)) (Ok (confirmation_tag pid e OfMixer a.session)) (Err (handshake_fault Tag 3)))))
 
   abbrev pub confirmed : Answered C K → (message workspace output : List ℕ) → Result (Open C K × Ticket) (Refused (Answered C K))
   confirmed a m w o = settled a (λ t. (open_mixer a, ticket)) (confirm_check a m w o)
@@ -145,13 +136,10 @@ module _ {C K : Type 0} (pid : ℕ) (e : List ℕ → List ℕ → List ℕ) whe
   confirm_output a m w o = written 15 (λ t. octets_of 4 pid (verify t)) (confirm_check a m w o) o
 
   -- finish: workspace, the check for kind 4, the mixer's tag
-  abbrev pub finish_within : Proved C K → (message : List ℕ) → Result (Unit {0}) Fault
-  finish_within p m =
-      and_then (checked 4 pid m)
-      (cond (bytes_eq (confirmation_tag pid e OfMixer p.session) (tag_in m)) (Ok tt) (Err (handshake_fault Tag 3)))
-
   abbrev pub finish_check : Proved C K → (message workspace : List ℕ) → Result (Unit {0}) Fault
-  finish_check p m w = sized 256 w (finish_within p m)
+  finish_check p m w =
+      sized 256 w (and_then (checked 4 pid m)
+      (cond (bytes_eq (confirmation_tag pid e OfMixer p.session) (tag_in m)) (Ok tt) (Err (handshake_fault Tag 3))))
 
   abbrev pub finished : Proved C K → (message workspace : List ℕ) → Result (Open C K × Ticket) (Refused (Proved C K))
   finished p m w = settled p (λ u. (open_fob p, ticket)) (finish_check p m w)

@@ -1,5 +1,5 @@
 -- What the calls of an open end make of it, by the meaning of the cipher: its protocol identifier pid and its function e.
-use Rattle.std.specs.Prelude.{◌≡◌, ℕ, ◌+◌, ◌%◌, ◌≤◌, Bool, cond, not, List, ◌++◌, length, take, drop, Ok, Err, Result, ◌==◌, nat_le, nat_lt}
+use Rattle.std.specs.Prelude.{ℕ, ◌+◌, ◌%◌, Bool, cond, not, List, ◌++◌, length, take, drop, Ok, Err, Result, ◌==◌, nat_le, nat_lt}
 use Rattle.std.specs.Str.{bytes_eq}
 use Rattle.fault.specs.declared.Fault.{Fault}
 use Rattle.fault.specs.declared.HostCause.TheVariants.{PayloadLength, Turn, LastNumber}
@@ -23,19 +23,16 @@ seals_at Fob n = n % 2 == 0
 seals_at Mixer n = n % 2 == 1
 
 -- number and counter after a packet of n octets
-abbrev pub advanced_to : Epoch → ℕ → Epoch
-advanced_to p counter = record {
+abbrev pub advanced : Epoch → ℕ → Epoch
+advanced p n = record {
   keys = record {
     master = p.keys.master;
     encryption = p.keys.encryption;
     integrity = p.keys.integrity;
-    counter = counter;
+    counter = moved p.keys.counter n;
   };
   number = p.number + 1;
 }
-
-abbrev pub advanced : Epoch → ℕ → Epoch
-advanced p n = advanced_to p (moved p.keys.counter n)
 
 -- an end after a packet of n octets
 abbrev pub advanced_end : {C K : Type 0} → Open C K → ℕ → Open C K
@@ -47,12 +44,6 @@ data_in m = take (number_at m 6) (drop 9 m)
 
 abbrev pub tag_of : List ℕ → List ℕ
 tag_of m = take 12 (drop (9 + number_at m 6) m)
-
--- a packet with a payload of n octets
-pub record Fits (m : List ℕ) (n : ℕ) : Type 0 where
-  pub field : n ≡ number_at m 6
-  pub small : n ≤ 4096
-  pub whole : length m ≡ 21 + n
 
 module _ (e : List ℕ → List ℕ → List ℕ) where
   -- data under the keystream from the end's counter on, and the tag of a packet
@@ -66,24 +57,12 @@ module _ (e : List ℕ → List ℕ → List ℕ) where
   abbrev pub sealed_packet : ℕ → Epoch → List ℕ → List ℕ
   sealed_packet pid p payload = octets_of 5 pid (enc (p.number + 1) (crypted p payload) (packet_tag p (p.number + 1) (crypted p payload)))
 
-  -- a packet that comes in: the check for kind 5, the number, the tag
-  abbrev pub packet_check : ℕ → Epoch → List ℕ → Result (ℕ × ℕ) Fault
-  packet_check pid p m =
-      and_then (checked 5 pid m)
-      (unless (nat_le (number_at m 3) p.number) (channel_fault Stale 3)
-      (unless (nat_lt (p.number + 1) (number_at m 3)) (channel_fault Ahead 3)
-      (cond (bytes_eq (packet_tag p (number_at m 3) (data_in m)) (tag_of m)) (Ok (number_at m 6, number_at m 3))
-      (Err (channel_fault Tag (9 + number_at m 6))))))
-
 -- seal: workspace, payload, output, last number, turn; answers how many octets the packet has
-abbrev pub seal_within : {C K : Type 0} → Open C K → (payload output : List ℕ) → Result ℕ Fault
-seal_within x p o =
-    unless (nat_lt 4096 (length p)) (host_fault PayloadLength) (sized (21 + length p) o
-    (unless (nat_le 16777215 x.epoch.number) (host_fault LastNumber)
-    (unless (not (seals_at x.role x.epoch.number)) (host_fault Turn) (Ok (21 + length p)))))
-
 abbrev pub seal_check : {C K : Type 0} → Open C K → (payload workspace output : List ℕ) → Result ℕ Fault
-seal_check x p w o = sized 256 w (seal_within x p o)
+seal_check x p w o =
+    sized 256 w (unless (nat_lt 4096 (length p)) (host_fault PayloadLength) (sized (21 + length p) o
+    (unless (nat_le 16777215 x.epoch.number) (host_fault LastNumber)
+    (unless (not (seals_at x.role x.epoch.number)) (host_fault Turn) (Ok (21 + length p))))))
 
 abbrev pub seal_end : {C K : Type 0} → Open C K → List ℕ → Result ℕ Fault → Open C K
 seal_end x p (Ok n) = advanced_end x (length p)
@@ -97,15 +76,17 @@ module _ {C K : Type 0} (pid : ℕ) (e : List ℕ → List ℕ → List ℕ) whe
   abbrev pub seal_output : Open C K → (payload workspace output : List ℕ) → List ℕ
   seal_output x p w o = written (21 + length p) (λ n. sealed_packet e pid x.epoch p) (seal_check x p w o) o
 
-  -- unseal: workspace, output, last number, turn, the packet; answers the payload's length and its number
-  abbrev pub unseal_within : Open C K → (message output : List ℕ) → Result (ℕ × ℕ) Fault
-  unseal_within x m o =
-      sized 4096 o
-      (unless (nat_le 16777215 x.epoch.number) (host_fault LastNumber)
-      (unless (seals_at x.role x.epoch.number) (host_fault Turn) (packet_check e pid x.epoch m)))
-
+  -- unseal: workspace, output, last number, turn, the check for kind 5, the number, the tag; answers the payload's length and its number
   abbrev pub unseal_check : Open C K → (message workspace output : List ℕ) → Result (ℕ × ℕ) Fault
-  unseal_check x m w o = sized 256 w (unseal_within x m o)
+  unseal_check x m w o =
+      sized 256 w (sized 4096 o
+      (unless (nat_le 16777215 x.epoch.number) (host_fault LastNumber)
+      (unless (seals_at x.role x.epoch.number) (host_fault Turn)
+      (and_then (checked 5 pid m)
+      (unless (nat_le (number_at m 3) x.epoch.number) (channel_fault Stale 3)
+      (unless (nat_lt (x.epoch.number + 1) (number_at m 3)) (channel_fault Ahead 3)
+      (cond (bytes_eq (packet_tag e x.epoch (number_at m 3) (data_in m)) (tag_of m)) (Ok (number_at m 6, number_at m 3))
+      (Err (channel_fault Tag (9 + number_at m 6))))))))))
 
   abbrev pub unseal_output : Open C K → (message workspace output : List ℕ) → List ℕ
   unseal_output x m w o = written (number_at m 6) (λ r. crypted e x.epoch (data_in m)) (unseal_check x m w o) o

@@ -4,7 +4,8 @@ ghost use Rattle.cipher.specs.Cipher.{E};
 ghost use Rattle.cipher.specs.Workspace.{left};
 ghost use Rattle.keyed.specs.Derivation.{derived};
 ghost use Rattle.channel.specs.Steps.{label_in, nonce_in};
-ghost use Rattle.channel.specs.Handshake.{invited, invite_output, proof_of, prove_within, prove_check, to_proved, proven, prove_output, finish_within, finish_check, open_fob, finished};
+ghost use Rattle.channel.specs.Handshake.{invited, invite_output, proof_of, prove_check, to_proved, proven, prove_output, finish_check, open_fob, finished};
+ghost use Rattle.channel.specs.Within.{prove_within, finish_within};
 
 use crate::fields::cut;
 use crate::{

@@ -2,7 +2,8 @@
 ghost use Rattle.std.specs.Prelude.{◌≡◌, ◌≤◌, length, drop, OnOk};
 ghost use Rattle.cipher.specs.Cipher.{E};
 ghost use Rattle.cipher.specs.Workspace.{left};
-ghost use Rattle.channel.specs.Handshake.{answer_within, answer_check, to_answered, answered, answer_output, confirm_within, confirm_check, open_mixer, confirmed, confirm_output};
+ghost use Rattle.channel.specs.Handshake.{answer_check, to_answered, answered, answer_output, confirm_check, open_mixer, confirmed, confirm_output};
+ghost use Rattle.channel.specs.Within.{answer_within, confirm_within};
 
 use crate::fields::cut;
 use crate::{Answered, Epoch, Mixer, Nonce, NotStarted, Open, Refused, Role, Session, Ticket};

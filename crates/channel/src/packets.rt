@@ -6,7 +6,8 @@ ghost use Rattle.cipher.specs.Workspace.{left};
 ghost use Rattle.keyed.specs.Keystream.{moved};
 ghost use Rattle.message.specs.Layout.{number_at};
 ghost use Rattle.channel.specs.Steps.{written};
-ghost use Rattle.channel.specs.Packets.{seals_at, advanced_to, packet_check, Fits, data_in, tag_of, packet_tag, crypted, sealed_packet, seal_within, seal_check, seal_end, seal_output, unseal_within, unseal_check, unseal_end, unseal_output, closed};
+ghost use Rattle.channel.specs.Packets.{seals_at, data_in, tag_of, packet_tag, crypted, sealed_packet, seal_check, seal_end, seal_output, unseal_check, unseal_end, unseal_output, closed};
+ghost use Rattle.channel.specs.Within.{advanced_to, packet_check, Fits, seal_within, unseal_within};
 
 use crate::{Epoch, Open, Role, Ticket};
 use cipher::{BlockCipher, Guard, WORKSPACE};

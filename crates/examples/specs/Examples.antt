@@ -44,11 +44,11 @@ pub record Examples (C K : Type 0) : Type 0 where
   pub seal_full : (x : Open C K) (p w o : List ℕ) → Ready x w o → length p ≡ 4096 → seal_check x p w o ≡ Ok 4117
   pub seal_over : (x : Open C K) (p w o : List ℕ) → Ready x w o → length p ≡ 4097 → seal_check x p w o ≡ Err (host_fault PayloadLength)
   -- the fob at 16,777,214 seals 16,777,215, and then gets 4
-  pub seal-last :
+  pub seal_last :
       (x : Open C K) (p w o : List ℕ) → Ready x w o → length p ≤ 4096 → x.epoch.number ≡ 16777214 →
       ((seal_end x p (seal_check x p w o)).epoch.number ≡ 16777215)
       × (seal_check (seal_end x p (seal_check x p w o)) p w o ≡ Err (host_fault LastNumber)) × (number_of (host_fault LastNumber).layer ≡ 4)
   -- an ACT_REQ of 39 octets gives 6, at place 39
-  pub short-act :
+  pub short_act :
       (pid : ℕ) (m : List ℕ) → length m ≡ 39 → slice_index m 0 ≡ 1 → slice_index m 1 ≡ pid → slice_index m 2 ≡ 3 →
       checked 1 pid m ≡ Err (message_fault Length 39)

@@ -31,12 +31,12 @@ last_block m j e =
     take_all j d (omega arith) ∙ sym (take_all 16 d (omega arith))
 
 -- a result from its parts: f enciphers under the key, g under K1
-pub result-is :
+pub result_is :
     (e : List ℕ → List ℕ → List ℕ) (k m : List ℕ) (n j : ℕ) (f g : List ℕ → List ℕ) {k1 k2 k3 s x r : List ℕ} →
     f ≡ e k → k1 ≡ f (replicate 16 1) → k2 ≡ f (replicate 16 2) → k3 ≡ f (replicate 16 3) →
     g ≡ e k1 → n ≡ before m → j ≡ length m - 16 * n → s ≡ chain g m n → x ≡ closed k2 k3 s (take j (drop (16 * n) m)) → r ≡ g x → r ≡ keyed_result e k m
 unfolding keyed_result key1 key2 key3
-result-is e k m n j f g ef e1 e2 e3 eg en ej es ex er =
+result_is e k m n j f g ef e1 e2 e3 eg en ej es ex er =
     let jj : j ≡ length m - 16 * before m = ej ∙ ap (λ i. length m - 16 * i) en in
     let t = last_block m j jj in
     cc

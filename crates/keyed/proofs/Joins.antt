@@ -64,7 +64,7 @@ pub fills : (p o : List ℕ) {s : List ℕ} → length o ≤ length p → s ≡ 
 fills p o h e = e ∙ ap (λ t. p ++ t) (drop_all (length p) o h) ∙ append-nil p
 
 -- an octet and four parts of seventy octets in all fill a string of seventy-one
-pub fills-confirmation :
+pub fills_confirmation :
     (x : ℕ) (a b p q o : List ℕ) {s : List ℕ} → length o ≡ 71 → length a ≡ 10 → length b ≡ 10 → length p ≡ 25 → length q ≡ 25 →
     s ≡ (x ∷ (a ++ (b ++ (p ++ (q ++ []))))) ++ drop (length (x ∷ (a ++ (b ++ (p ++ (q ++ [])))))) o → s ≡ (x ∷ []) ++ a ++ b ++ p ++ q
-fills-confirmation x a b p q o ho ha hb hp hq e = fills (x ∷ (a ++ (b ++ (p ++ (q ++ []))))) o (simp length-append (omega arith)) e ∙ simp (append_assoc, append-nil)
+fills_confirmation x a b p q o ho ha hb hp hq e = fills (x ∷ (a ++ (b ++ (p ++ (q ++ []))))) o (simp length-append (omega arith)) e ∙ simp (append_assoc, append-nil)

@@ -76,56 +76,56 @@ three_same a b {x} {y} ha hb h =
     let r : a % 256 ≡ b % 256 = heads (tails (tails h)) in
     (omega arith, tails (tails (tails h)))
 
-pub packet-same :
+pub packet_same :
     (a b : ℕ) (x y : Octets) → a < 2 ^ 24 → b < 2 ^ 24 → packet a x ≡ packet b y → (a ≡ b) × (x ≡ y)
 unfolding packet three
-packet-same a b x y ha hb h =
+packet_same a b x y ha hb h =
     let r : (a ≡ b) × (three (length x) ++ x ≡ three (length y) ++ y) = three_same a b ha hb h in
     (r.0, (parts (three (length x)) (three (length y)) refl r.1).1)
 
 -- the strings of a derivation: where those of MK are the same, so are those of KE and KI; that of KI is no string of MK
-pub masters-same :
+pub masters_same :
     (na nb ida idb na' nb' ida' idb' : Octets) → master_string na nb ida idb ≡ master_string na' nb' ida' idb' →
     split na nb ++ ida ++ idb ≡ split na' nb' ++ ida' ++ idb'
 unfolding master_string
-masters-same na nb ida idb na' nb' ida' idb' h = (same_from_push (split na nb ++ ida ++ idb) (split na' nb' ++ ida' ++ idb') 1 1 h).0
+masters_same na nb ida idb na' nb' ida' idb' h = (same_from_push (split na nb ++ ida ++ idb) (split na' nb' ++ ida' ++ idb') 1 1 h).0
 
 regroup : (k a b c : Octets) → k ++ a ++ b ++ c ≡ k ++ (a ++ b ++ c)
 regroup k a b c = ap (λ (l : Octets). l ++ c) (append_assoc k a b) ∙ append_assoc k (a ++ b) c
 
-strings-same :
+strings_same :
     (k k' a b c a' b' c' : Octets) (n : ℕ) → k ≡ k' → a ++ b ++ c ≡ a' ++ b' ++ c' → k ++ a ++ b ++ c ++ n ∷ [] ≡ k' ++ a' ++ b' ++ c' ++ n ∷ []
-strings-same k k' a b c a' b' c' n e h =
+strings_same k k' a b c a' b' c' n e h =
     let x : k ++ a ++ b ++ c ≡ k ++ (a ++ b ++ c) = regroup k a b c in
     let y : k' ++ a' ++ b' ++ c' ≡ k' ++ (a' ++ b' ++ c') = regroup k' a' b' c' in
     cc
 
-pub encryptions-same :
+pub encryptions_same :
     (mk mk' na nb ida idb na' nb' ida' idb' : Octets) → mk ≡ mk' → split na nb ++ ida ++ idb ≡ split na' nb' ++ ida' ++ idb' →
     encryption_string mk na nb ida idb ≡ encryption_string mk' na' nb' ida' idb'
 unfolding encryption_string
-encryptions-same mk mk' na nb ida idb na' nb' ida' idb' e h = strings-same mk mk' (split na nb) ida idb (split na' nb') ida' idb' 2 e h
+encryptions_same mk mk' na nb ida idb na' nb' ida' idb' e h = strings_same mk mk' (split na nb) ida idb (split na' nb') ida' idb' 2 e h
 
-pub integrities-same :
+pub integrities_same :
     (ke ke' na nb ida idb na' nb' ida' idb' : Octets) → ke ≡ ke' → split na nb ++ ida ++ idb ≡ split na' nb' ++ ida' ++ idb' →
     integrity_string ke na nb ida idb ≡ integrity_string ke' na' nb' ida' idb'
 unfolding integrity_string
-integrities-same ke ke' na nb ida idb na' nb' ida' idb' e h = strings-same ke ke' (split na nb) ida idb (split na' nb') ida' idb' 3 e h
+integrities_same ke ke' na nb ida idb na' nb' ida' idb' e h = strings_same ke ke' (split na nb) ida idb (split na' nb') ida' idb' 3 e h
 
-pub integrity-no-master :
+pub integrity_no_master :
     (ke na nb ida idb na' nb' ida' idb' : Octets) {A : Type 0} → integrity_string ke na nb ida idb ≡ master_string na' nb' ida' idb' → A
 unfolding integrity_string master_string
-integrity-no-master ke na nb ida idb na' nb' ida' idb' h =
+integrity_no_master ke na nb ida idb na' nb' ida' idb' h =
     let e : ◌≡◌ {A = ℕ} 3 1 = (same_from_push (ke ++ split na nb ++ ida ++ idb) (split na' nb' ++ ida' ++ idb') 3 1 h).1 in absurd (omega arith)
 
 -- counters: blocks at two places of one stream
 pub blocks_small : (n : ℕ) → n ≤ 4096 → blocks n ≤ 256
 blocks_small n h = omega arith
 
-pub counters-apart :
+pub counters_apart :
     (v t u c d i j k : ℕ) → c % 2 ^ 128 ≡ (v + t) % 2 ^ 128 → d % 2 ^ 128 ≡ (v + u) % 2 ^ 128 → u + k ≤ t → j < k → t + i < 2 ^ 128 →
     (c + i) % 2 ^ 128 ≢ (d + j) % 2 ^ 128
-counters-apart v t u c d i j k hc hd le lt small h = absurd (omega arith)
+counters_apart v t u c d i j k hc hd le lt small h = absurd (omega arith)
 
 pub counter-moved :
     (v t c n : ℕ) → c % 2 ^ 128 ≡ (v + t) % 2 ^ 128 → moved c n % 2 ^ 128 ≡ (v + (t + blocks n)) % 2 ^ 128

@@ -65,10 +65,10 @@ early_stills z (k ∷ ks) log q h = early_still z k (logged z ks log) q.0 (early
 module _ {C K L : Type 0} (m : Setting C K L) where
   -- where a tag that x sent comes from, by the stage g that x is at now
   pub data Origin (log : List Entry) (x : Role) (g : Ghost) (t : Octets) : Type 0 where
-    by-proof :
+    by_proof :
         (s : Inputs) → InputsOf g s → (x ≡ AtMixer → IsOpen g) → m.Worked (mk m s, proof m x s) → t ≡ tagged m (mk m s) (proof m x s) →
         Origin log x g t
-    by-seal :
+    by_seal :
         (s : Inputs) (n c : ℕ) (p : Octets) → OpenedOf g s → n < 2 ^ 24 → m.Worked (ki m s, packet n (crypt m (ke m s) c p)) →
         t ≡ tagged m (ki m s) (packet n (crypt m (ke m s) c p)) → x did seals n c p ∈ log → Origin log x g t
 
@@ -96,32 +96,32 @@ module _ {C K L : Type 0} (m : Setting C K L) where
   pub grows_not : (f : Ghost) → Grows f f
   grows_not f = record { sessions = λ t a. a; openings = λ t a. a; open_on = λ a. a }
 
-  origin-grows :
+  origin_grows :
       (log log' : List Entry) (x : Role) (f f' : Ghost) → Within log log' → Grows f f' → (t : Octets) → Origin log x f t → Origin log' x f' t
-  origin-grows log log' x f f' i w t (by-proof s a b c e) = by-proof s (w.sessions s a) (λ h. w.open_on (b h)) c e
-  origin-grows log log' x f f' i w t (by-seal s n c p a b k e j) = by-seal s n c p (w.openings s a) b k e (i (x did seals n c p) j)
+  origin_grows log log' x f f' i w t (by_proof s a b c e) = by_proof s (w.sessions s a) (λ h. w.open_on (b h)) c e
+  origin_grows log log' x f f' i w t (by_seal s n c p a b k e j) = by_seal s n c p (w.openings s a) b k e (i (x did seals n c p) j)
 
-  said-grows :
+  said_grows :
       (log log' : List Entry) (x : Role) (f f' : Ghost) → Within log log' → Grows f f' → (d : Event) → Said log x f d → Said log' x f' d
-  said-grows log log' x f f' i w (offers q n) h = tt
-  said-grows log log' x f f' i w (reads q n) h = tt
-  said-grows log log' x f f' i w proves h = tt
-  said-grows log log' x f f' i w opens h = w.open_on h
-  said-grows log log' x f f' i w (sends t) h = origin-grows log log' x f f' i w t h
-  said-grows log log' x f f' i w (accepts t) h = tt
-  said-grows log log' x f f' i w (seals n c p) h = tt
-  said-grows log log' x f f' i w (unseals n p) h = tt
+  said_grows log log' x f f' i w (offers q n) h = tt
+  said_grows log log' x f f' i w (reads q n) h = tt
+  said_grows log log' x f f' i w proves h = tt
+  said_grows log log' x f f' i w opens h = w.open_on h
+  said_grows log log' x f f' i w (sends t) h = origin_grows log log' x f f' i w t h
+  said_grows log log' x f f' i w (accepts t) h = tt
+  said_grows log log' x f f' i w (seals n c p) h = tt
+  said_grows log log' x f f' i w (unseals n p) h = tt
 
-  says-grow :
+  says_grow :
       (log log' : List Entry) (f f' g g' : Ghost) → Within log log' → Grows f f' → Grows g g' → (z : Role) (d : Event) →
       Says log f g z d → Says log' f' g' z d
-  says-grow log log' f f' g g' i w w' AtFob d h = said-grows log log' AtFob f f' i w d h
-  says-grow log log' f f' g g' i w w' AtMixer d h = said-grows log log' AtMixer g g' i w' d h
+  says_grow log log' f f' g g' i w w' AtFob d h = said_grows log log' AtFob f f' i w d h
+  says_grow log log' f f' g g' i w w' AtMixer d h = said_grows log log' AtMixer g g' i w' d h
 
-  pub all-says :
+  pub all_says :
       (log log' : List Entry) (f f' g g' : Ghost) → Within log log' → Grows f f' → Grows g g' → (l : List Entry) →
       All (Says log f g) l → All (Says log' f' g') l
-  all-says log log' f f' g g' i w w' l h = all_map (Says log f g) (Says log' f' g') (says-grow log log' f f' g g' i w w') l h
+  all_says log log' f f' g g' i w w' l h = all_map (Says log f g) (Says log' f' g') (says_grow log log' f f' g g' i w w') l h
 
   -- the keyed results of MK and KI are among those worked out
   pub record Derived (s : Inputs) : Type 0 where
@@ -204,10 +204,10 @@ module _ {C K L : Type 0} (m : Setting C K L) where
     pub same_ki : ki m sf ≡ ki m sm
     pub flow : NoncesAsSent log → Flow (iv m sm) AtFob AtMixer log nf cf nm cm
 
-  pub live-stills :
+  pub live_stills :
       (z : Role) (ks : List Event) (log : List Entry) (sf : Inputs) (nf cf : ℕ) (sm : Inputs) (nm cm : ℕ) → Stills ks →
       Live log sf nf cf sm nm cm → Live (logged z ks log) sf nf cf sm nm cm
-  live-stills z ks log sf nf cf sm nm cm q h =
+  live_stills z ks log sf nf cf sm nm cm q h =
       record {
         same_mk = h.same_mk;
         same_ke = h.same_ke;
@@ -229,13 +229,13 @@ module _ {C K L : Type 0} (m : Setting C K L) where
   Both log f (opened sm nm cm) = WithOpen log sm nm cm f
 
   -- the fob moves on before the mixer opens
-  pub both-moves :
+  pub both_moves :
       (f f' g : Ghost) (ks : List Event) (log : List Entry) → Stills ks → NotOpen f' → ((sm : Inputs) (nm cm : ℕ) → WithOpen log sm nm cm f → ⊥) →
       Both log f g → Both (logged AtFob ks log) f' g
-  both-moves f f' fresh ks log q n w h = (n, early_stills AtFob ks log q h.1)
-  both-moves f f' (invited k) ks log q n w h = h
-  both-moves f f' (holding s) ks log q n w h = (n, early_stills AtFob ks log q h.1)
-  both-moves f f' (opened sm nm cm) ks log q n w h = absurd (w sm nm cm h)
+  both_moves f f' fresh ks log q n w h = (n, early_stills AtFob ks log q h.1)
+  both_moves f f' (invited k) ks log q n w h = h
+  both_moves f f' (holding s) ks log q n w h = (n, early_stills AtFob ks log q h.1)
+  both_moves f f' (opened sm nm cm) ks log q n w h = absurd (w sm nm cm h)
 
   abbrev pub SentBefore : Entry → List Entry → Type 0
   SentBefore e past = (x : Role) (t : Octets) → e ≡ x did accepts t → other x did sends t ∈ past

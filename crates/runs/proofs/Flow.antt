@@ -5,7 +5,7 @@ use Rattle.channel.specs.declared.Role.{Role}
 use Rattle.runs.specs.History.{Event, offers, reads, proves, opens, sends, accepts, seals, unseals, Entry, ◌did◌, logged}
 use Rattle.runs.specs.Law.{◌∈◌, when, sealed_in, unsealed_in, sealed, unsealed, NoBlockTwice, UpToLast}
 use Rattle.runs.proofs.Model.{Octets, parity, last_number}
-use Rattle.runs.proofs.Base.{Opposite, swap, when_own, when_other, when_none, parities, counters-apart, counter-moved, blocks_small}
+use Rattle.runs.proofs.Base.{Opposite, swap, when_own, when_other, when_none, parities, counters_apart, counter-moved, blocks_small}
 
 -- of each entry of a log
 abbrev pub All : (Role → Event → Type 0) → List Entry → Type 0
@@ -36,26 +36,26 @@ IfSeal P x (accepts t) = Unit {0}
 IfSeal P x (seals n c p) = P x n c p
 IfSeal P x (unseals n p) = Unit {0}
 
-if-seal-map :
+if_seal_map :
     (P Q : Role → ℕ → ℕ → Octets → Type 0) → ((x : Role) (n c : ℕ) (p : Octets) → P x n c p → Q x n c p) →
     (x : Role) (k : Event) → IfSeal P x k → IfSeal Q x k
-if-seal-map P Q f x (offers q n) h = tt
-if-seal-map P Q f x (reads q n) h = tt
-if-seal-map P Q f x proves h = tt
-if-seal-map P Q f x opens h = tt
-if-seal-map P Q f x (sends t) h = tt
-if-seal-map P Q f x (accepts t) h = tt
-if-seal-map P Q f x (seals n c p) h = f x n c p h
-if-seal-map P Q f x (unseals n p) h = tt
+if_seal_map P Q f x (offers q n) h = tt
+if_seal_map P Q f x (reads q n) h = tt
+if_seal_map P Q f x proves h = tt
+if_seal_map P Q f x opens h = tt
+if_seal_map P Q f x (sends t) h = tt
+if_seal_map P Q f x (accepts t) h = tt
+if_seal_map P Q f x (seals n c p) h = f x n c p h
+if_seal_map P Q f x (unseals n p) h = tt
 
 abbrev pub AllSeals : (Role → ℕ → ℕ → Octets → Type 0) → List Entry → Type 0
 AllSeals P log = All (IfSeal P) log
 
-pub seals-map :
+pub seals_map :
     (P Q : Role → ℕ → ℕ → Octets → Type 0) →
     ((x : Role) (n c : ℕ) (p : Octets) → P x n c p → Q x n c p) →
     (log : List Entry) → AllSeals P log → AllSeals Q log
-seals-map P Q f log h = all_map (IfSeal P) (IfSeal Q) (if-seal-map P Q f) log h
+seals_map P Q f log h = all_map (IfSeal P) (IfSeal Q) (if_seal_map P Q f) log h
 
 -- a seal below the number n, over blocks below the place t of the stream that begins at v
 pub record Old (v n t : ℕ) (x : Role) (number counter : ℕ) (payload : Octets) : Type 0 where
@@ -105,11 +105,11 @@ flow_swap {v} {x} {y} {log} {n} {c} {k} {d} (level a b l) =
 flow_swap (ahead a) = behind a
 flow_swap (behind a) = ahead a
 
-pub flow-up-to-last :
+pub flow_up_to_last :
     {v : ℕ} {x y : Role} {log : List Entry} {n c k d : ℕ} → Flow v x y log n c k d → UpToLast (unsealed x log) (sealed y log)
-flow-up-to-last (level a b l) = inl (sym l.from_y)
-flow-up-to-last (ahead a) = inl (sym a.from_y)
-flow-up-to-last (behind a) = inr (a.p, a.from_x)
+flow_up_to_last (level a b l) = inl (sym l.from_y)
+flow_up_to_last (ahead a) = inl (sym a.from_y)
+flow_up_to_last (behind a) = inr (a.p, a.from_x)
 
 -- an event that neither seals nor unseals
 abbrev pub Still : Event → Type 1
@@ -154,26 +154,26 @@ abbrev pub Stills : List Event → Type 1
 Stills [] = Unit {1}
 Stills (e ∷ es) = Still e × Stills es
 
-pub flow-still :
+pub flow_still :
     {v : ℕ} {x y : Role} {log : List Entry} {n c k d : ℕ} (z : Role) (e : Event) → Still e → Flow v x y log n c k d →
     Flow v x y (z did e ∷ log) n c k d
-flow-still z e q (level a b l) = level a b (level_still z e q l)
-flow-still z e q (ahead a) = ahead (ahead_still z e q a)
-flow-still z e q (behind a) = behind (ahead_still z e q a)
+flow_still z e q (level a b l) = level a b (level_still z e q l)
+flow_still z e q (ahead a) = ahead (ahead_still z e q a)
+flow_still z e q (behind a) = behind (ahead_still z e q a)
 
 pub flow_stills : {v : ℕ} {x y : Role} {n c k d : ℕ} (log : List Entry) (z : Role) (es : List Event) → Stills es → Flow v x y log n c k d → Flow v x y (logged z es log) n c k d
 flow_stills log z [] q h = h
-flow_stills log z (e ∷ es) q h = flow-still z e q.0 (flow_stills log z es q.1 h)
+flow_stills log z (e ∷ es) q h = flow_still z e q.0 (flow_stills log z es q.1 h)
 
 -- where both stand level, the blocks of the next packet are new
-new-blocks :
+new_blocks :
     {v : ℕ} {x y : Role} {log : List Entry} {n c : ℕ} (p : Octets) → n < last_number → length p ≤ 4096 → (l : Level v x y log n c) →
     (z : Role) (k d : ℕ) (q : Octets) → z did seals k d q ∈ log → NoBlockTwice c (length p) d (length q)
-new-blocks {v} {x} {y} {log} {n} {c} p small fits l z k d q h i j hi hj =
+new_blocks {v} {x} {y} {log} {n} {c} p small fits l z k d q h i j hi hj =
     let o : Old v n l.t z k d q = all_in (IfSeal (Old v n l.t)) log l.seals_old z (seals k d q) h in
     let w : blocks (length p) ≤ 256 = blocks_small (length p) fits in
     let u : l.t ≤ 256 * n = l.small in
-    counters-apart v l.t o.place c d i j (blocks (length q)) l.stands o.stands o.ends hj (omega arith)
+    counters_apart v l.t o.place c d i j (blocks (length q)) l.stands o.stands o.ends hj (omega arith)
 
 -- a seal by x
 module _ {v : ℕ} {x y : Role} (opp : Opposite x y) {log : List Entry} {n c k d : ℕ} (p : Octets) where
@@ -189,10 +189,10 @@ module _ {v : ℕ} {x y : Role} (opp : Opposite x y) {log : List Entry} {n c k d
       let g : parity x + parity y ≡ 1 = parities opp in
       omega arith
 
-  seal-level :
+  seal_level :
       n % 2 ≡ parity x → length p ≤ 4096 → n ≡ k → c ≡ d → Level v x y log n c →
       Ahead v x y (x did seals (n + 1) c p ∷ log) (n + 1) (moved c (length p)) k d
-  seal-level h fits a b l =
+  seal_level h fits a b l =
       let P : Role → ℕ → ℕ → Octets → Type 0 = Old v n l.t in
       let Q : Role → ℕ → ℕ → Octets → Type 0 = Old v (n + 1) (l.t + blocks (length p)) in
       let R : Role → ℕ → ℕ → Octets → Type 0 = λ z n' c' p'. n' ≡ n + 1 → (c' ≡ d) × (p' ≡ p) in
@@ -213,27 +213,27 @@ module _ {v : ℕ} {x y : Role} (opp : Opposite x y) {log : List Entry} {n c k d
             ∙ sym (unsealed_still x x (seals (n + 1) c p) log refl);
         seals_old = (
           record { below = omega arith; place = l.t; stands = l.stands; ends = omega arith },
-          seals-map P Q (old_more v n l.t (n + 1) (l.t + blocks (length p)) (omega arith) (omega arith)) log l.seals_old,
+          seals_map P Q (old_more v n l.t (n + 1) (l.t + blocks (length p)) (omega arith) (omega arith)) log l.seals_old,
         );
         latest = (
           (λ e. (b, refl)),
-          seals-map P R (λ z n' c' p' o e. absurd (omega (arith, o.below))) log l.seals_old,
+          seals_map P R (λ z n' c' p' o e. absurd (omega (arith, o.below))) log l.seals_old,
         );
       }
 
-  pub flow-seal :
+  pub flow_seal :
       n % 2 ≡ parity x → length p ≤ 4096 → Flow v x y log n c k d →
       Flow v x y (x did seals (n + 1) c p ∷ log) (n + 1) (moved c (length p)) k d
-  flow-seal h fits (level a b l) = ahead (seal-level h fits a b l)
-  flow-seal h fits (ahead a) = absurd (not_ahead a h)
-  flow-seal h fits (behind a) = absurd (not_behind a h)
+  flow_seal h fits (level a b l) = ahead (seal_level h fits a b l)
+  flow_seal h fits (ahead a) = absurd (not_ahead a h)
+  flow_seal h fits (behind a) = absurd (not_behind a h)
 
-  pub flow-seal-apart :
+  pub flow_seal_apart :
       n % 2 ≡ parity x → n < last_number → length p ≤ 4096 → Flow v x y log n c k d →
       (z : Role) (j e : ℕ) (q : Octets) → z did seals j e q ∈ log → NoBlockTwice c (length p) e (length q)
-  flow-seal-apart h small fits (level a b l) = new-blocks p small fits l
-  flow-seal-apart h small fits (ahead a) = absurd (not_ahead a h)
-  flow-seal-apart h small fits (behind a) = absurd (not_behind a h)
+  flow_seal_apart h small fits (level a b l) = new_blocks p small fits l
+  flow_seal_apart h small fits (ahead a) = absurd (not_ahead a h)
+  flow_seal_apart h small fits (behind a) = absurd (not_behind a h)
 
 -- an unsealing by x, of a packet that y sealed
 module _
@@ -263,21 +263,21 @@ module _
                 ∙ sym (ap (λ (r : List Octets). r ++ unsealed x log) (when_own x (out ∷ [])));
             seals_old = (
               tt,
-              seals-map (Old v k t') (Old v (n + 1) t') (old_more v k t' (n + 1) t' (omega arith) (omega arith)) log a.seals_old,
+              seals_map (Old v k t') (Old v (n + 1) t') (old_more v k t' (n + 1) t' (omega arith) (omega arith)) log a.seals_old,
             );
           },
           ap (moved c) len ∙ sym a.counted,
         )
 
-    pub flow-unseal :
+    pub flow_unseal :
         Flow v x y log n c k d → Flow v x y (x did unseals (n + 1) out ∷ log) (n + 1) (moved c size) k d
-    flow-unseal (level a b l) =
+    flow_unseal (level a b l) =
         let o : Old v n l.t y (n + 1) c' p' = all_in (IfSeal (Old v n l.t)) log l.seals_old y (seals (n + 1) c' p') sealed_so in
         absurd (omega (arith, o.below))
-    flow-unseal (ahead a) =
+    flow_unseal (ahead a) =
         let t' : ℕ = a.t + blocks (length a.p) in
         let o : Old v n t' y (n + 1) c' p' = all_in (IfSeal (Old v n t')) log a.seals_old y (seals (n + 1) c' p') sealed_so in
         absurd (omega (arith, o.below))
-    flow-unseal (behind a) =
+    flow_unseal (behind a) =
         let r : Level v x y (x did unseals (n + 1) out ∷ log) (n + 1) (moved c size) × (moved c size ≡ d) = unseal_behind a in
         level (sym a.next) r.1 r.0

@@ -7,7 +7,7 @@ use Rattle.runs.specs.Law.{other, ◌∈◌, NoncesAsSent}
 use Rattle.runs.proofs.Model.{Octets, Inputs, Setting, Ghost, fresh, invited, holding, opened, ke, iv}
 use Rattle.runs.proofs.Flow.{All, all_in, Flow, flow_swap}
 use Rattle.runs.proofs.Places.{Within, within_logged, Places}
-use Rattle.runs.proofs.Facts.{InputsOf, OpenedOf, Origin, Said, Says, all-says, Grows, grows_not, Derived, FobAt, MixerAt, fob_more, mixer_more, fob_trail_of, mixer_trail_of, WithOpen, Both, Facts}
+use Rattle.runs.proofs.Facts.{InputsOf, OpenedOf, Origin, Said, Says, all_says, Grows, grows_not, Derived, FobAt, MixerAt, fob_more, mixer_more, fob_trail_of, mixer_trail_of, WithOpen, Both, Facts}
 
 module _ {C K L : Type 0} (m : Setting C K L) where
   -- the events of a step tell what they should
@@ -15,43 +15,43 @@ module _ {C K L : Type 0} (m : Setting C K L) where
   Saids log x g [] = Unit {0}
   Saids log x g (k ∷ ks) = Said m log x g k × Saids log x g ks
 
-  says-fob :
+  says_fob :
       (log : List Entry) (f g : Ghost) (ks : List Event) (l : List Entry) → Saids log AtFob f ks → All (Says m log f g) l →
       All (Says m log f g) (logged AtFob ks l)
-  says-fob log f g [] l s h = h
-  says-fob log f g (k ∷ ks) l s h = (s.0, says-fob log f g ks l s.1 h)
+  says_fob log f g [] l s h = h
+  says_fob log f g (k ∷ ks) l s h = (s.0, says_fob log f g ks l s.1 h)
 
-  says-mixer :
+  says_mixer :
       (log : List Entry) (f g : Ghost) (ks : List Event) (l : List Entry) → Saids log AtMixer g ks → All (Says m log f g) l →
       All (Says m log f g) (logged AtMixer ks l)
-  says-mixer log f g [] l s h = h
-  says-mixer log f g (k ∷ ks) l s h = (s.0, says-mixer log f g ks l s.1 h)
+  says_mixer log f g [] l s h = h
+  says_mixer log f g (k ∷ ks) l s h = (s.0, says_mixer log f g ks l s.1 h)
 
   -- an end moves on
-  pub fob-moves :
+  pub fob_moves :
       (log : List Entry) (ks : List Event) (f f' g : Ghost) → Facts m log f g → Grows m f f' → FobAt m (logged AtFob ks log) f' →
       Saids (logged AtFob ks log) AtFob f' ks → Both m (logged AtFob ks log) f' g → Places m (logged AtFob ks log) → Facts m (logged AtFob ks log) f' g
-  fob-moves log ks f f' g h w at s b p =
+  fob_moves log ks f f' g h w at s b p =
       let log' : List Entry = logged AtFob ks log in
       let i : Within log log' = within_logged AtFob ks log in
       record {
         fob_at = at;
         mixer_at = mixer_more m log log' i g h.mixer_at;
-        says = says-fob log' f' g ks log s (all-says m log log' f f' g g i w (grows_not m g) log h.says);
+        says = says_fob log' f' g ks log s (all_says m log log' f f' g g i w (grows_not m g) log h.says);
         both = b;
         places = p;
       }
 
-  pub mixer-moves :
+  pub mixer_moves :
       (log : List Entry) (ks : List Event) (f g g' : Ghost) → Facts m log f g → Grows m g g' → MixerAt m (logged AtMixer ks log) g' →
       Saids (logged AtMixer ks log) AtMixer g' ks → Both m (logged AtMixer ks log) f g' → Places m (logged AtMixer ks log) → Facts m (logged AtMixer ks log) f g'
-  mixer-moves log ks f g g' h w at s b p =
+  mixer_moves log ks f g g' h w at s b p =
       let log' : List Entry = logged AtMixer ks log in
       let i : Within log log' = within_logged AtMixer ks log in
       record {
         fob_at = fob_more m log log' i f h.fob_at;
         mixer_at = at;
-        says = says-mixer log' f g' ks log s (all-says m log log' f f g g' i (grows_not m f) w log h.says);
+        says = says_mixer log' f g' ks log s (all_says m log log' f f g g' i (grows_not m f) w log h.says);
         both = b;
         places = p;
       }
@@ -77,21 +77,21 @@ module _ {C K L : Type 0} (m : Setting C K L) where
   their_derived AtFob log a b h u e = (mixer_trail_of m b log u e h.mixer_at).derived
   their_derived AtMixer log a b h u e = (fob_trail_of m b log u e h.fob_at).derived
 
-  pub their-origin :
+  pub their_origin :
       (x : Role) (log : List Entry) (a b : Ghost) → FactsAt x log a b → (t : Octets) → other x did sends t ∈ log → Origin m log (other x) b t
-  their-origin AtFob log a b h t i = all_in (Says m log a b) log h.says AtMixer (sends t) i
-  their-origin AtMixer log a b h t i = all_in (Says m log b a) log h.says AtFob (sends t) i
+  their_origin AtFob log a b h t i = all_in (Says m log a b) log h.says AtMixer (sends t) i
+  their_origin AtMixer log a b h t i = all_in (Says m log b a) log h.says AtFob (sends t) i
 
   -- an open end stays open
-  pub open-moves :
+  pub open_moves :
       (x : Role) (log : List Entry) (ks : List Event) (s : Inputs) (n c n' c' : ℕ) (b : Ghost) → FactsAt x log (opened s n c) b →
       Saids (logged x ks log) x (opened s n' c') ks → BothAt x (logged x ks log) (opened s n' c') b → Places m (logged x ks log) →
       FactsAt x (logged x ks log) (opened s n' c') b
-  open-moves AtFob log ks s n c n' c' b h q both p =
-      fob-moves log ks (opened s n c) (opened s n' c') b h record { sessions = λ t a. a; openings = λ t a. a; open_on = λ a. a }
+  open_moves AtFob log ks s n c n' c' b h q both p =
+      fob_moves log ks (opened s n c) (opened s n' c') b h record { sessions = λ t a. a; openings = λ t a. a; open_on = λ a. a }
       (fob_more m log (logged AtFob ks log) (within_logged AtFob ks log) (opened s n c) h.fob_at) q both p
-  open-moves AtMixer log ks s n c n' c' b h q both p =
-      mixer-moves log ks b (opened s n c) (opened s n' c') h record { sessions = λ t a. a; openings = λ t a. a; open_on = λ a. a }
+  open_moves AtMixer log ks s n c n' c' b h q both p =
+      mixer_moves log ks b (opened s n c) (opened s n' c') h record { sessions = λ t a. a; openings = λ t a. a; open_on = λ a. a }
       (mixer_more m log (logged AtMixer ks log) (within_logged AtMixer ks log) (opened s n c) h.mixer_at) q both p
 
   -- an open end x and the other: the same KE, the packets between them, and how what holds of both comes of them

@@ -27,7 +27,7 @@ use Rattle.channel.specs.Handshake.{ticket, invite_check, to_invited, invite_out
 use Rattle.channel.specs.Handshake.{answer_check, to_answered, answered, answer_output, proof_of, prove_check, to_proved, proven, prove_output}
 use Rattle.channel.specs.Handshake.{confirmation_tag, confirm_check, confirm_output, finish_check}
 use Rattle.runs.specs.History.{Lookups}
-use Rattle.runs.specs.Unaltered.{Blocks, Paired, Buffers, Opened, OpensUnaltered}
+use Rattle.runs.specs.Unaltered.{Blocks, Paired, Buffers, Opened, OpenedWith, OpensUnaltered}
 use Rattle.channel.proofs.Checks.{sized-passes, and_then-passes, secret_or-passes, tag_passes}
 use Rattle.runs.proofs.Fields.{tag_12, Acts, acts_ap, Verifies, verifies_as, written-acts, written-verifies}
 
@@ -52,50 +52,50 @@ proved_of i qa qb na nb s = record { session = session_of i.identities i.key qa 
 
 -- each call, given a message that reads back: its check passes, and the end moves on
 module _ {C K : Type 0} (pid : ℕ) (e : List ℕ → List ℕ → List ℕ) (own : K → List ℕ) (replies : K → List ℕ → Reply) where
-  answer-passes :
+  answer_passes :
       {m qa na z : List ℕ} (x : Mixer C) (k : K) (n : Nonce) (w o : List ℕ) → 256 ≤ length w → 40 ≤ length o → Acts 1 pid m qa na →
       replies k qa ≡ Secret z → answer_check pid e own replies x k n m w o ≡ Ok (keys_of e na n.octets z x.identities)
-  answer-passes {m = m} {z = z} x k n w o hw ho a h =
+  answer_passes {m = m} {z = z} x k n w o hw ho a h =
       sized-passes 256 w _ hw ∙ sized-passes 40 o _ ho ∙ and_then-passes (checked 1 pid m) tt _ a.accepted
       ∙ secret_or-passes (replies k (label_in m)) z _ (ap (replies k) a.label ∙ h)
       ∙ acts_ap {A = Result SessionKeys Fault} (λ q v. Ok (keys_of e v n.octets z x.identities)) a
 
-  answer-goes :
+  answer_goes :
       {m qa na : List ℕ} {s : SessionKeys} (x : Mixer C) (k : K) (n : Nonce) (w o : List ℕ) → Acts 1 pid m qa na →
       answer_check pid e own replies x k n m w o ≡ Ok s →
       answered pid e own replies x k n m w o ≡ Ok (answering_of x k qa (own k) na n.octets s)
-  answer-goes {m = m} {s = s} x k n w o a h =
+  answer_goes {m = m} {s = s} x k n w o a h =
       ap (λ v. started x k n (to_answered pid e own replies x k n m) v) h
       ∙ acts_ap {A = Result (Answered C K) (NotStarted (Mixer C) K)} (λ q v. Ok (answering_of x k q (own k) v n.octets s)) a
 
-  prove-passes :
+  prove_passes :
       {m qb nb z : List ℕ} (i : Invited C K) (w o : List ℕ) → 256 ≤ length w → 15 ≤ length o → Acts 2 pid m qb nb → replies i.key qb ≡ Secret z →
       prove_check pid e own replies i m w o ≡ Ok (proof_of pid e own replies i m (keys_of e i.nonce.octets (nonce_in m) z i.identities))
-  prove-passes {m = m} {z = z} i w o hw ho a h =
+  prove_passes {m = m} {z = z} i w o hw ho a h =
       sized-passes 256 w _ hw ∙ sized-passes 15 o _ ho ∙ and_then-passes (checked 2 pid m) tt _ a.accepted
       ∙ secret_or-passes (replies i.key (label_in m)) z _ (ap (replies i.key) a.label ∙ h)
 
-  prove-goes :
+  prove_goes :
       {m qb nb : List ℕ} (i : Invited C K) (w o z : List ℕ) → Acts 2 pid m qb nb →
       prove_check pid e own replies i m w o ≡ Ok (proof_of pid e own replies i m (keys_of e i.nonce.octets (nonce_in m) z i.identities)) →
       proven pid e own replies i m w o ≡ Ok (proved_of i (own i.key) qb i.nonce.octets nb (keys_of e i.nonce.octets nb z i.identities))
-  prove-goes {m = m} i w o z a h =
+  prove_goes {m = m} i w o z a h =
       ap (λ v. settled i (to_proved pid e own replies i m) v) h
       ∙ acts_ap {A = Result (Proved C K) (Refused (Invited C K))}
       (λ q v. Ok (proved_of i (own i.key) q i.nonce.octets v (keys_of e i.nonce.octets v z i.identities))) a
 
 module _ {C K : Type 0} (pid : ℕ) (e : List ℕ → List ℕ → List ℕ) where
-  confirm-passes :
+  confirm_passes :
       {m : List ℕ} (a : Answered C K) (w o : List ℕ) → 256 ≤ length w → 15 ≤ length o → Verifies 3 pid m (confirmation_tag pid e OfFob a.session) →
       confirm_check pid e a m w o ≡ Ok (confirmation_tag pid e OfMixer a.session)
-  confirm-passes {m = m} a w o hw ho v =
+  confirm_passes {m = m} a w o hw ho v =
       sized-passes 256 w _ hw ∙ sized-passes 15 o _ ho ∙ and_then-passes (checked 3 pid m) tt _ v.accepted
       ∙ tag_passes (confirmation_tag pid e OfFob a.session) (tag_in m) _ _ (sym v.tagged)
 
-  finish-passes :
+  finish_passes :
       {m : List ℕ} (p : Proved C K) (w : List ℕ) → 256 ≤ length w → Verifies 4 pid m (confirmation_tag pid e OfMixer p.session) →
       finish_check pid e p m w ≡ Ok tt
-  finish-passes {m = m} p w hw v =
+  finish_passes {m = m} p w hw v =
       sized-passes 256 w _ hw ∙ and_then-passes (checked 4 pid m) tt _ v.accepted
       ∙ tag_passes (confirmation_tag pid e OfMixer p.session) (tag_in m) _ _ (sym v.tagged)
 
@@ -147,30 +147,30 @@ module _ {C K L : Type 0} (pid : ℕ) (e : List ℕ → List ℕ → List ℕ) (
   first_reads : Acts 1 pid first qa na.octets
   first_reads = written-acts Request pid qa na.octets b.invite_out invite_checked p.fob_25 na-12
 
-  answer-checked :
+  answer_checked :
       answer_check pid e u.mixer_own u.mixer_replies x l nb first b.answer_workspace b.answer_out ≡ Ok (keys_by x.identities)
-  answer-checked =
-      answer-passes pid e u.mixer_own u.mixer_replies x l nb b.answer_workspace b.answer_out
+  answer_checked =
+      answer_passes pid e u.mixer_own u.mixer_replies x l nb b.answer_workspace b.answer_out
       b.answer_space b.answer_room first_reads p.mixer_secret
 
   second_reads : Acts 2 pid second qb nb.octets
-  second_reads = written-acts Response pid qb nb.octets b.answer_out answer-checked p.mixer_25 nb-12
+  second_reads = written-acts Response pid qb nb.octets b.answer_out answer_checked p.mixer_25 nb-12
 
-  prove-checked :
+  prove_checked :
       prove_check pid e u.fob_own u.fob_replies waiting second b.prove_workspace b.prove_out
       ≡ Ok (proof_of pid e u.fob_own u.fob_replies waiting second (keys_of e na.octets (nonce_in second) p.secret f.identities))
-  prove-checked =
-      prove-passes pid e u.fob_own u.fob_replies waiting b.prove_workspace b.prove_out
+  prove_checked =
+      prove_passes pid e u.fob_own u.fob_replies waiting b.prove_workspace b.prove_out
       b.prove_space b.prove_room second_reads p.fob_secret
 
   -- each confirmation is the one that the other end works out
   third_reads : Verifies 3 pid third (tag_by OfFob qb nb.octets x.identities)
   third_reads =
-      verifies_as (written-verifies Request pid b.prove_out prove-checked (λ v. v.tag) (tag_12 e whole _ _))
+      verifies_as (written-verifies Request pid b.prove_out prove_checked (λ v. v.tag) (tag_12 e whole _ _))
       (acts_ap (λ q n. tag_by OfFob q n f.identities) second_reads ∙ ap (tag_by OfFob qb nb.octets) same)
 
   confirm_checked : confirm_check pid e answering third b.confirm_workspace b.confirm_out ≡ Ok (tag_by OfMixer qb nb.octets x.identities)
-  confirm_checked = confirm-passes pid e answering b.confirm_workspace b.confirm_out b.confirm_space b.confirm_room third_reads
+  confirm_checked = confirm_passes pid e answering b.confirm_workspace b.confirm_out b.confirm_space b.confirm_room third_reads
 
   fourth_reads : Verifies 4 pid fourth (tag_by OfMixer qb nb.octets f.identities)
   fourth_reads =
@@ -178,7 +178,7 @@ module _ {C K L : Type 0} (pid : ℕ) (e : List ℕ → List ℕ → List ℕ) (
       (ap (tag_by OfMixer qb nb.octets) (sym same))
 
   finish_checked : finish_check pid e proved fourth b.finish_workspace ≡ Ok tt
-  finish_checked = finish-passes pid e proved b.finish_workspace b.finish_space fourth_reads
+  finish_checked = finish_passes pid e proved b.finish_workspace b.finish_space fourth_reads
 
   opened : Opened pid e u f k na x l nb b
   opened = record {
@@ -189,18 +189,26 @@ module _ {C K L : Type 0} (pid : ℕ) (e : List ℕ → List ℕ → List ℕ) (
     mixer = open_mixer answering;
     invites = ap (λ v. started f k na (λ t. waiting) v) invite_checked;
     answers =
-        answer-goes pid e u.mixer_own u.mixer_replies x l nb b.answer_workspace b.answer_out first_reads answer-checked;
+        answer_goes pid e u.mixer_own u.mixer_replies x l nb b.answer_workspace b.answer_out first_reads answer_checked;
     proves =
-        prove-goes pid e u.fob_own u.fob_replies waiting b.prove_workspace b.prove_out p.secret second_reads prove-checked;
+        prove_goes pid e u.fob_own u.fob_replies waiting b.prove_workspace b.prove_out p.secret second_reads prove_checked;
     confirms = ap (λ v. settled answering (λ t. (open_mixer answering, ticket)) v) confirm_checked;
     finishes = ap (λ v. settled proved (λ t. (open_fob proved, ticket)) v) finish_checked;
     fob_role = refl;
     mixer_role = refl;
     same_epoch = ap epoch_by same;
     at_zero = refl;
-    fob_key = refl;
-    mixer_key = refl;
   }
+
+  opened_with : OpenedWith pid e u f k na x l nb b
+  unfolding opened
+  opened_with = record { opened = opened; fob_key = refl; mixer_key = refl }
 
 pub opens_unaltered : (C K L : Type 0) → OpensUnaltered C K L
 opens_unaltered C K L = opened
+
+-- and the ends keep the keys that they were given
+pub opens_with : {C K L : Type 0} (pid : ℕ) (e : List ℕ → List ℕ → List ℕ) (u : Lookups K L) (f : Fob C) (k : K) (na : Nonce) (x : Mixer C) (l : L) (nb : Nonce) (b : Buffers)
+    → Blocks e → f.identities ≡ x.identities → Paired u k l → length na.octets ≡ 12 → length nb.octets ≡ 12
+    → OpenedWith pid e u f k na x l nb b
+opens_with = opened_with

@@ -50,10 +50,10 @@ module _ {C A B : Type 0} (pid : ℕ) (e : List ℕ → List ℕ → List ℕ) (
       ∙ unless-passes (leb 16777215 s.epoch.number) _ _ (lt-leb 16777215 s.epoch.number below)
       ∙ unless-passes (not (seals_at s.role s.epoch.number)) _ _ (not_from_true (seals_at s.role s.epoch.number) turn)
 
-  sealed-packs :
+  sealed_packs :
       (w o : List ℕ) → 256 ≤ length w → 21 + length p ≤ length o →
       Packs pid (take (21 + length p) (seal_output pid e s p w o)) (s.epoch.number + 1) sealed_data sealed_tag
-  sealed-packs w o hw ho =
+  sealed_packs w o hw ho =
       written-packs pid (s.epoch.number + 1) (21 + length p) sealed_data sealed_tag o (seal_passes w o hw ho)
       (omega arith) (omega (arith, sealed_data_length)) (tag_12 e whole _ _) (omega (arith, sealed_data_length))
 
@@ -95,7 +95,7 @@ module _ {C A B : Type 0} (pid : ℕ) (e : List ℕ → List ℕ → List ℕ) (
   pub passes_one : PassesOne pid e s r p
   passes_one w o w' o' hw ho hw' ho' =
       let m : List ℕ = take (21 + length p) (seal_output pid e s p w o) in
-      let a = sealed-packs w o hw ho in
+      let a = sealed_packs w o hw ho in
       record { seals = seal_passes w o hw ho; unseals = unseal_answers m w' o' a hw' ho'; payload = payload_out m w' o' a hw' ho' }
 
 -- both ends one packet on

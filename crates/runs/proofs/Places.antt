@@ -105,11 +105,11 @@ module _ {C K L : Type 0} (m : Setting C K L) where
         apart = λ n. (not_apart (AtMixer did opens) log refl, h.apart (nonces_less log (AtMixer did opens ∷ log) (λ e i. inr i) n));
       }
 
-  pub seals-new :
+  pub seals_new :
       (x : Role) (n c : ℕ) (p : Octets) (log : List Entry) →
       (NoncesAsSent log → (y : Role) (l d : ℕ) (q : Octets) → y did seals l d q ∈ log → NoBlockTwice c (length p) d (length q)) →
       Places log → Places (x did seals n c p ∷ log)
-  seals-new x n c p log new h =
+  seals_new x n c p log new h =
       record {
         first = (not_first (x did seals n c p) log refl, h.first);
         meets = (not_meets m (x did seals n c p) log refl, h.meets);

@@ -11,11 +11,11 @@ use Rattle.runs.specs.History.{Event, offers, reads, proves, opens, sends, accep
 use Rattle.runs.specs.Law.{other, ◌∈◌, Met}
 use Rattle.runs.proofs.Model.{Octets, Inputs, Setting, Ghost, fresh, invited, holding, opened, last_number, parity, label, seeded, mk, ke, ki, iv, mk_string, ki_string, proof, tagged, crypt}
 use Rattle.keyed.proofs.Stream.{keeps_length, gives_back}
-use Rattle.runs.proofs.Base.{opposite, fob_mixer, four, tail_same, masters-same, encryptions-same, integrities-same, integrity-no-master, packet-same}
-use Rattle.runs.proofs.Flow.{seals-map, Old, level, flow-seal, flow-seal-apart, flow-unseal, flow_stills, Stills}
-use Rattle.runs.proofs.Places.{nonces_less, plain, opens_fob, opens_mixer, seals-new}
-use Rattle.runs.proofs.Facts.{InputsOf, OpenedOf, NotOpen, not_open_opened, Early, early_stills, Origin, by-proof, by-seal, Derived, FobTrail, MixerTrail, MixerAt, fob_more, mixer_trail_more, fob_trail_of, Live, live-stills, WithOpen, Both, both-moves, Facts}
-use Rattle.runs.proofs.Moves.{fob-moves, mixer-moves, FactsAt, places_of, own_derived, their_derived, their-origin, open-moves, Linked, linked}
+use Rattle.runs.proofs.Base.{opposite, fob_mixer, four, tail_same, masters_same, encryptions_same, integrities_same, integrity_no_master, packet_same}
+use Rattle.runs.proofs.Flow.{seals_map, Old, level, flow_seal, flow_seal_apart, flow_unseal, flow_stills, Stills}
+use Rattle.runs.proofs.Places.{nonces_less, plain, opens_fob, opens_mixer, seals_new}
+use Rattle.runs.proofs.Facts.{InputsOf, OpenedOf, NotOpen, not_open_opened, Early, early_stills, Origin, by_proof, by_seal, Derived, FobTrail, MixerTrail, MixerAt, fob_more, mixer_trail_more, fob_trail_of, Live, live_stills, WithOpen, Both, both_moves, Facts}
+use Rattle.runs.proofs.Moves.{fob_moves, mixer_moves, FactsAt, places_of, own_derived, their_derived, their_origin, open_moves, Linked, linked}
 
 module _ {C K L : Type 0} (m : Setting C K L) where
   -- keys
@@ -28,15 +28,15 @@ module _ {C K L : Type 0} (m : Setting C K L) where
       in
       let a : seeded m s ≡ seeded m t = r.0 in
       let b : split s.na s.nb ++ s.identities.fob ++ s.identities.mixer ≡ split t.na t.nb ++ t.identities.fob ++ t.identities.mixer =
-      masters-same s.na s.nb s.identities.fob s.identities.mixer t.na t.nb t.identities.fob t.identities.mixer r.1
+      masters_same s.na s.nb s.identities.fob s.identities.mixer t.na t.nb t.identities.fob t.identities.mixer r.1
       in
       let k : ke m s ≡ ke m t =
       ap-result a
-      (encryptions-same (mk m s) (mk m t) s.na s.nb s.identities.fob s.identities.mixer t.na t.nb t.identities.fob t.identities.mixer e b)
+      (encryptions_same (mk m s) (mk m t) s.na s.nb s.identities.fob s.identities.mixer t.na t.nb t.identities.fob t.identities.mixer e b)
       in (
         k,
         ap-result a
-            (integrities-same (ke m s) (ke m t) s.na s.nb s.identities.fob s.identities.mixer t.na t.nb t.identities.fob t.identities.mixer k b),
+            (integrities_same (ke m s) (ke m t) s.na s.nb s.identities.fob s.identities.mixer t.na t.nb t.identities.fob t.identities.mixer k b),
       )
     where
       ap-result : {k k' t t' : Octets} → k ≡ k' → t ≡ t' → keyed_result m.cipher k t ≡ keyed_result m.cipher k' t'
@@ -45,7 +45,7 @@ module _ {C K L : Type 0} (m : Setting C K L) where
   ki_not_mk : (s t : Inputs) {A : Type 0} → Derived m s → Derived m t → ki m s ≡ mk m t → A
   unfolding tag master_key integrity_key
   ki_not_mk s t ds dt e =
-      integrity-no-master (ke m s) s.na s.nb s.identities.fob s.identities.mixer t.na t.nb t.identities.fob t.identities.mixer
+      integrity_no_master (ke m s) s.na s.nb s.identities.fob s.identities.mixer t.na t.nb t.identities.fob t.identities.mixer
       (m.apart (seeded m s, ki_string m s) (seeded m t, mk_string m t) ds.ki_in dt.mk_in (ap (take 12) e)).1
 
   -- identities and labels
@@ -70,12 +70,12 @@ module _ {C K L : Type 0} (m : Setting C K L) where
   iv_same s t a b c d = cc
 
   -- the handshake
-  pub invite-keeps :
+  pub invite_keeps :
       (log : List Entry) (g : Ghost) (na : Octets) → Facts m log fresh g → Facts m (AtFob did offers (label m) na ∷ log) (invited na) g
-  invite-keeps log g na h =
+  invite_keeps log g na h =
       let k : Event = offers (label m) na in
-      fob-moves m log (k ∷ []) fresh (invited na) g h record { sessions = λ t a. a; openings = λ t a. a; open_on = λ a. a } (inl refl) (tt, tt)
-      (both-moves m fresh (invited na) g (k ∷ []) log ((refl, refl, λ P x. tt), tt) tt (λ sm nm cm a. a) h.both)
+      fob_moves m log (k ∷ []) fresh (invited na) g h record { sessions = λ t a. a; openings = λ t a. a; open_on = λ a. a } (inl refl) (tt, tt)
+      (both_moves m fresh (invited na) g (k ∷ []) log ((refl, refl, λ P x. tt), tt) tt (λ sm nm cm a. a) h.both)
       (plain m AtFob k log refl refl h.places)
 
   pub answer_keeps :
@@ -84,24 +84,24 @@ module _ {C K L : Type 0} (m : Setting C K L) where
   answer_keeps log f s e ds h =
       let k : Event = offers s.qb s.nb in
       let j : Event = reads s.qa s.na in
-      mixer-moves m log (k ∷ j ∷ []) f fresh (holding s) h record { sessions = λ t a. absurd a; openings = λ t a. a; open_on = λ a. a }
+      mixer_moves m log (k ∷ j ∷ []) f fresh (holding s) h record { sessions = λ t a. absurd a; openings = λ t a. a; open_on = λ a. a }
       record { named = e; offered = inl refl; had_read = inr (inl refl); derived = ds } (tt, (tt, tt))
       (h.both.0, early_stills AtMixer (k ∷ j ∷ []) log ((refl, refl, λ P x. tt), ((refl, refl, λ P x. tt), tt)) h.both.1)
       (plain m AtMixer k (AtMixer did j ∷ log) refl refl (plain m AtMixer j log refl refl h.places))
 
-  pub prove-keeps :
+  pub prove_keeps :
       (log : List Entry) (g : Ghost) (na : Octets) (s : Inputs) → s.identities ≡ m.fob.identities → s.na ≡ na → s.qa ≡ label m →
       Derived m s → m.Worked (mk m s, proof m AtFob s) → Facts m log (invited na) g →
       Facts m (AtFob did sends (tagged m (mk m s) (proof m AtFob s)) ∷ AtFob did proves ∷ AtFob did reads s.qb s.nb ∷ log) (holding s) g
-  prove-keeps log g na s e en eq ds w h =
+  prove_keeps log g na s e en eq ds w h =
       let k : Event = sends (tagged m (mk m s) (proof m AtFob s)) in
       let j : Event = reads s.qb s.nb in
       let log₁ : List Entry = AtFob did j ∷ log in
       let i : AtFob did offers s.qa s.na ∈ log = rw (en, eq) h.fob_at in
-      fob-moves m log (k ∷ proves ∷ j ∷ []) (invited na) (holding s) g h record { sessions = λ t a. absurd a; openings = λ t a. a; open_on = λ a. a }
+      fob_moves m log (k ∷ proves ∷ j ∷ []) (invited na) (holding s) g h record { sessions = λ t a. absurd a; openings = λ t a. a; open_on = λ a. a }
       record { named = e; offered = inr (inr (inr i)); had_read = inr (inr (inl refl)); proved = inr (inl refl); derived = ds }
-      (by-proof s refl (λ q. fob_mixer q) w refl, (tt, (tt, tt)))
-      (both-moves m (invited na) (holding s) g (k ∷ proves ∷ j ∷ []) log
+      (by_proof s refl (λ q. fob_mixer q) w refl, (tt, (tt, tt)))
+      (both_moves m (invited na) (holding s) g (k ∷ proves ∷ j ∷ []) log
       ((refl, refl, λ P x. tt), ((refl, refl, λ P x. tt), ((refl, refl, λ P x. tt), tt))) tt (λ sm nm cm a. a) h.both)
       (plain m AtFob k (AtFob did proves ∷ log₁) refl refl (plain m AtFob proves log₁ refl refl (plain m AtFob j log refl refl h.places)))
 
@@ -112,15 +112,15 @@ module _ {C K L : Type 0} (m : Setting C K L) where
     pub same_mk : mk m theirs ≡ mk m s
     pub same_proof : proof m AtFob theirs ≡ proof m AtFob s
 
-  proved-by :
+  proved_by :
       (log : List Entry) (f : Ghost) (s : Inputs) (t : Octets) → t ≡ tagged m (mk m s) (proof m AtFob s) → NotOpen f →
       m.Worked (mk m s, proof m AtFob s) → Origin m log AtFob f t → Proved f s
-  proved-by log f s t is n w (by-proof u a b c e) =
+  proved_by log f s t is n w (by_proof u a b c e) =
       let r : (mk m u ≡ mk m s) × (proof m AtFob u ≡ proof m AtFob s) =
       m.apart (mk m u, proof m AtFob u) (mk m s, proof m AtFob s) c w (sym e ∙ is)
       in
       record { theirs = u; of = a; same_mk = r.0; same_proof = r.1 }
-  proved-by log f s t is n w (by-seal u k c p a b d e i) = not_open_opened f u n a
+  proved_by log f s t is n w (by_seal u k c p a b d e i) = not_open_opened f u n a
 
   begin :
       (log : List Entry) (sf sm : Inputs) → FobTrail m log sf → MixerTrail m log sm → mk m sf ≡ mk m sm → Early log →
@@ -143,7 +143,7 @@ module _ {C K L : Type 0} (m : Setting C K L) where
               small = omega arith;
               from_x = early.sealed_f ∙ sym early.unsealed_m;
               from_y = early.sealed_m ∙ sym early.unsealed_f;
-              seals_old = seals-map (λ x n c p. ⊥) (Old (iv m sm) 0 0) (λ x n c p b. absurd b) log early.no_seal;
+              seals_old = seals_map (λ x n c p. ⊥) (Old (iv m sm) 0 0) (λ x n c p b. absurd b) log early.no_seal;
             };
       }
     where
@@ -188,50 +188,50 @@ module _ {C K L : Type 0} (m : Setting C K L) where
         inr (subst (λ (q : Octets). AtFob did reads q t.nb ∈ log) k.same_qb tf.had_read),
       )
 
-  pub confirm-keeps :
+  pub confirm_keeps :
       (log : List Entry) (f : Ghost) (s : Inputs) → m.Worked (mk m s, proof m AtFob s) → m.Worked (mk m s, proof m AtMixer s) →
       AtFob did sends (tagged m (mk m s) (proof m AtFob s)) ∈ log → Facts m log f (holding s) →
       Facts m
       (AtMixer did sends (tagged m (mk m s) (proof m AtMixer s)) ∷ AtMixer did opens ∷ AtMixer did accepts (tagged m (mk m s) (proof m AtFob s)) ∷ log)
       f (opened s 0 (iv m s))
-  confirm-keeps log f s w w' sent h =
+  confirm_keeps log f s w w' sent h =
       let k : Event = sends (tagged m (mk m s) (proof m AtMixer s)) in
       let b : Event = accepts (tagged m (mk m s) (proof m AtFob s)) in
       let log₁ : List Entry = AtMixer did b ∷ log in
       let log₂ : List Entry = AtMixer did opens ∷ log₁ in
       let q : Stills (k ∷ opens ∷ b ∷ []) = ((refl, refl, λ P x. tt), ((refl, refl, λ P x. tt), ((refl, refl, λ P x. tt), tt))) in
       let p : Proved f s =
-      proved-by log f s (tagged m (mk m s) (proof m AtFob s)) refl h.both.0 w
-      (their-origin m AtMixer log (holding s) f h (tagged m (mk m s) (proof m AtFob s)) sent)
+      proved_by log f s (tagged m (mk m s) (proof m AtFob s)) refl h.both.0 w
+      (their_origin m AtMixer log (holding s) f h (tagged m (mk m s) (proof m AtFob s)) sent)
       in
       let t : Inputs = p.theirs in
       let tf : FobTrail m log t = fob_trail_of m f log t p.of h.fob_at in
       let tm : MixerTrail m log s = h.mixer_at in
       let live : Live m log t 0 (iv m t) s 0 (iv m s) = begin log t s tf tm p.same_mk h.both.1 in
-      mixer-moves m log (k ∷ opens ∷ b ∷ []) f (holding s) (opened s 0 (iv m s)) h
+      mixer_moves m log (k ∷ opens ∷ b ∷ []) f (holding s) (opened s 0 (iv m s)) h
       record { sessions = λ t a. a; openings = λ t a. absurd a; open_on = λ a. absurd a }
       (mixer_trail_more m log (AtMixer did k ∷ log₂) (λ e i. inr (inr (inr i))) s tm, inr (inl refl))
-      (by-proof s refl (λ e. tt) w' refl, (tt, (tt, tt)))
-      (meet (AtMixer did k ∷ log₂) f t s h.both.0 p.of (live-stills m AtMixer (k ∷ opens ∷ b ∷ []) log t 0 (iv m t) s 0 (iv m s) q live))
+      (by_proof s refl (λ e. tt) w' refl, (tt, (tt, tt)))
+      (meet (AtMixer did k ∷ log₂) f t s h.both.0 p.of (live_stills m AtMixer (k ∷ opens ∷ b ∷ []) log t 0 (iv m t) s 0 (iv m s) q live))
       (plain m AtMixer k log₂ refl refl
       (opens_mixer m log₁ (met log t s tf tm (alike_from t s p.same_proof)) (plain m AtMixer b log refl refl h.places)))
 
   -- the fob opens: the mixer has
   has_opened : (log : List Entry) (g : Ghost) (t : Octets) → NotOpen g → Origin m log AtMixer g t → ⊥
-  has_opened log fresh t n (by-proof s a b c e) = a
-  has_opened log (invited k) t n (by-proof s a b c e) = a
-  has_opened log (holding u) t n (by-proof s a b c e) = b refl
-  has_opened log (opened u k d) t n (by-proof s a b c e) = n
-  has_opened log g t n (by-seal s k c p a b d e i) = not_open_opened g s n a
+  has_opened log fresh t n (by_proof s a b c e) = a
+  has_opened log (invited k) t n (by_proof s a b c e) = a
+  has_opened log (holding u) t n (by_proof s a b c e) = b refl
+  has_opened log (opened u k d) t n (by_proof s a b c e) = n
+  has_opened log g t n (by_seal s k c p a b d e i) = not_open_opened g s n a
 
-  open-both :
+  open_both :
       (log : List Entry) (s : Inputs) (t : Octets) (g : Ghost) → (NotOpen g → ⊥) → Both m log (holding s) g →
       Both m (AtFob did opens ∷ AtFob did accepts t ∷ log) (opened s 0 (iv m s)) g
-  open-both log s t fresh n b = absurd (n tt)
-  open-both log s t (invited k) n b = absurd (n tt)
-  open-both log s t (holding u) n b = absurd (n tt)
-  open-both log s t (opened u k c) n b =
-      live-stills m AtFob (opens ∷ accepts t ∷ []) log s 0 (iv m s) u k c ((refl, refl, λ P x. tt), ((refl, refl, λ P x. tt), tt)) b
+  open_both log s t fresh n b = absurd (n tt)
+  open_both log s t (invited k) n b = absurd (n tt)
+  open_both log s t (holding u) n b = absurd (n tt)
+  open_both log s t (opened u k c) n b =
+      live_stills m AtFob (opens ∷ accepts t ∷ []) log s 0 (iv m s) u k c ((refl, refl, λ P x. tt), ((refl, refl, λ P x. tt), tt)) b
 
   opened_before : (log : List Entry) (g : Ghost) → (NotOpen g → ⊥) → MixerAt m log g → AtMixer did opens ∈ log
   opened_before log fresh n b = absurd (n tt)
@@ -239,35 +239,35 @@ module _ {C K L : Type 0} (m : Setting C K L) where
   opened_before log (holding t) n b = absurd (n tt)
   opened_before log (opened t k c) n b = b.1
 
-  pub finish-keeps :
+  pub finish_keeps :
       (log : List Entry) (g : Ghost) (s : Inputs) (t : Octets) → AtMixer did sends t ∈ log → Facts m log (holding s) g →
       Facts m (AtFob did opens ∷ AtFob did accepts t ∷ log) (opened s 0 (iv m s)) g
-  finish-keeps log g s t sent h =
+  finish_keeps log g s t sent h =
       let log₁ : List Entry = AtFob did accepts t ∷ log in
-      let n : NotOpen g → ⊥ = λ n. has_opened log g t n (their-origin m AtFob log (holding s) g h t sent) in
-      fob-moves m log (opens ∷ accepts t ∷ []) (holding s) (opened s 0 (iv m s)) g h
+      let n : NotOpen g → ⊥ = λ n. has_opened log g t n (their_origin m AtFob log (holding s) g h t sent) in
+      fob_moves m log (opens ∷ accepts t ∷ []) (holding s) (opened s 0 (iv m s)) g h
       record { sessions = λ t a. a; openings = λ t a. absurd a; open_on = λ a. absurd a }
-      (fob_more m log (AtFob did opens ∷ log₁) (λ e i. inr (inr i)) (holding s) h.fob_at) (tt, (tt, tt)) (open-both log s t g n h.both)
+      (fob_more m log (AtFob did opens ∷ log₁) (λ e i. inr (inr i)) (holding s) h.fob_at) (tt, (tt, tt)) (open_both log s t g n h.both)
       (opens_fob m log₁ (inr (opened_before log g n h.mixer_at)) (plain m AtFob (accepts t) log refl refl h.places))
 
   -- packets
-  pub seal-keeps :
+  pub seal_keeps :
       (x : Role) (log : List Entry) (b : Ghost) (s : Inputs) (n c : ℕ) (p : Octets) → length p ≤ 4096 → n < last_number → n % 2 ≡ parity x →
       m.Worked (ki m s, packet (n + 1) (crypt m (ke m s) c p)) → FactsAt m x log (opened s n c) b →
       FactsAt m x (x did sends (tagged m (ki m s) (packet (n + 1) (crypt m (ke m s) c p))) ∷ x did seals (n + 1) c p ∷ log)
       (opened s (n + 1) (moved c (length p))) b
-  seal-keeps x log b s n c p fits small turn w h =
+  seal_keeps x log b s n c p fits small turn w h =
       let t : Octets = tagged m (ki m s) (packet (n + 1) (crypt m (ke m s) c p)) in
       let log₁ : List Entry = x did seals (n + 1) c p ∷ log in
       let k : Linked m x log s n c b = linked m x log s n c b h in
-      open-moves m x log (sends t ∷ seals (n + 1) c p ∷ []) s n c (n + 1) (moved c (length p)) b h
-      (by-seal s (n + 1) c p refl (omega arith) w refl (inr (inl refl)), (tt, tt))
+      open_moves m x log (sends t ∷ seals (n + 1) c p ∷ []) s n c (n + 1) (moved c (length p)) b h
+      (by_seal s (n + 1) c p refl (omega arith) w refl (inr (inl refl)), (tt, tt))
       (k.again (x did sends t ∷ log₁) (n + 1) (moved c (length p))
       (λ a.
       flow_stills log₁ x (sends t ∷ []) ((refl, refl, λ P x. tt), tt)
-      (flow-seal (opposite x) p turn fits (k.flow (nonces_less log (x did sends t ∷ log₁) (λ e i. inr (inr i)) a)))))
+      (flow_seal (opposite x) p turn fits (k.flow (nonces_less log (x did sends t ∷ log₁) (λ e i. inr (inr i)) a)))))
       (plain m x (sends t) log₁ refl refl
-      (seals-new m x (n + 1) c p log (λ a. flow-seal-apart (opposite x) p turn small fits (k.flow a)) (places_of m x log (opened s n c) b h)))
+      (seals_new m x (n + 1) c p log (λ a. flow_seal_apart (opposite x) p turn small fits (k.flow a)) (places_of m x log (opened s n c) b h)))
 
   -- what the check of a packet's tag tells: the other end, y, sealed it
   pub record Packed (log : List Entry) (y : Role) (g : Ghost) (n : ℕ) (d : Octets) : Type 0 where
@@ -278,17 +278,17 @@ module _ {C K L : Type 0} (m : Setting C K L) where
     pub is : y did seals n counter payload ∈ log
     pub enciphers : d ≡ crypt m (ke m theirs) counter payload
 
-  packed-by :
+  packed_by :
       (log : List Entry) (y : Role) (g : Ghost) (s : Inputs) (n : ℕ) (d t : Octets) → n < 2 ^ 24 → Derived m s →
       m.Worked (ki m s, packet n d) → ((u : Inputs) → InputsOf g u → Derived m u) → t ≡ tagged m (ki m s) (packet n d) →
       Origin m log y g t → Packed log y g n d
-  packed-by log y g s n d t small ds w dt is (by-proof u a b c e) =
+  packed_by log y g s n d t small ds w dt is (by_proof u a b c e) =
       ki_not_mk s u ds (dt u a) (m.apart (ki m s, packet n d) (mk m u, proof m y u) w c (sym is ∙ e)).0
-  packed-by log y g s n d t small ds w dt is (by-seal u k c p a b w' e i) =
+  packed_by log y g s n d t small ds w dt is (by_seal u k c p a b w' e i) =
       let q : packet n d ≡ packet k (crypt m (ke m u) c p) =
       (m.apart (ki m s, packet n d) (ki m u, packet k (crypt m (ke m u) c p)) w w' (sym is ∙ e)).1
       in
-      let r : (n ≡ k) × (d ≡ crypt m (ke m u) c p) = packet-same n k d (crypt m (ke m u) c p) small b q in
+      let r : (n ≡ k) × (d ≡ crypt m (ke m u) c p) = packet_same n k d (crypt m (ke m u) c p) small b q in
       record
       { theirs = u; of = a; counter = c; payload = p; is = subst (λ (k : ℕ). y did seals k c p ∈ log) (sym r.0) i; enciphers = r.1 }
 
@@ -298,22 +298,22 @@ module _ {C K L : Type 0} (m : Setting C K L) where
       r ∙ ap (crypt m k c) f ∙ ap (λ (i : ℕ). crypt m k c (crypt m k' i p)) h ∙ ap (λ (i : Octets). crypt m k c (crypt m i c p)) (sym e)
       ∙ gives_back m.cipher k c p
 
-  pub unseal-keeps :
+  pub unseal_keeps :
       (x : Role) (log : List Entry) (b : Ghost) (s : Inputs) (n c size : ℕ) (d t out : Octets) → n < last_number → size ≡ length d →
       out ≡ crypt m (ke m s) c d → m.Worked (ki m s, packet (n + 1) d) → t ≡ tagged m (ki m s) (packet (n + 1) d) →
       other x did sends t ∈ log → FactsAt m x log (opened s n c) b →
       FactsAt m x (x did unseals (n + 1) out ∷ x did accepts t ∷ log) (opened s (n + 1) (moved c size)) b
-  unseal-keeps x log b s n c size d t out small long right w is sent h =
+  unseal_keeps x log b s n c size d t out small long right w is sent h =
       let log₁ : List Entry = x did accepts t ∷ log in
       let l : Linked m x log s n c b = linked m x log s n c b h in
       let k : Packed log (other x) b (n + 1) d =
-      packed-by log (other x) b s (n + 1) d t (omega arith) (own_derived m x log s n c b h) w (their_derived m x log (opened s n c) b h) is
-      (their-origin m x log (opened s n c) b h t sent)
+      packed_by log (other x) b s (n + 1) d t (omega arith) (own_derived m x log s n c b h) w (their_derived m x log (opened s n c) b h) is
+      (their_origin m x log (opened s n c) b h t sent)
       in
-      open-moves m x log (unseals (n + 1) out ∷ accepts t ∷ []) s n c (n + 1) (moved c size) b h (tt, (tt, tt))
+      open_moves m x log (unseals (n + 1) out ∷ accepts t ∷ []) s n c (n + 1) (moved c size) b h (tt, (tt, tt))
       (l.again (x did unseals (n + 1) out ∷ log₁) (n + 1) (moved c size)
       (λ a.
-      flow-unseal (opposite x) out size k.counter k.payload (inr k.is)
+      flow_unseal (opposite x) out size k.counter k.payload (inr k.is)
       (long ∙ ap length k.enciphers ∙ keeps_length m.cipher (ke m k.theirs) k.counter k.payload)
       (λ q. deciphered (ke m s) (ke m k.theirs) c k.counter d k.payload out (l.same_key k.theirs k.of) k.enciphers right q)
       (flow_stills log x (accepts t ∷ []) ((refl, refl, λ P x. tt), tt)

@@ -127,13 +127,13 @@ abbrev sent_tests : List Entry → Bool
 sent_tests [] = true
 sent_tests (a ∷ past) = sent_test a past && sent_tests past
 
-sent-tested :
+sent_tested :
     (log : List Entry) → sent_tests log ≡ true →
     Everywhere (λ x past. (r : Role) (t : List ℕ) → x ≡ r did accepts t → other r did sends t ∈ past) log
-sent-tested [] h = tt
-sent-tested (a ∷ past) h =
+sent_tested [] h = tt
+sent_tested (a ∷ past) h =
     let s = and_parts (sent_test a past) (sent_tests past) h in
-    ((λ r t q. sent_in (other r) t past (subst (λ (b : Entry). sent_test b past ≡ true) q s.0)), sent-tested past s.1)
+    ((λ r t q. sent_in (other r) t past (subst (λ (b : Entry). sent_test b past ≡ true) q s.0)), sent_tested past s.1)
 
 pub no_lucky_tag :
     {C K L : Type 0} (e : Octets → Octets → Octets) (h : History C K L) → apart_tests (with_tags e h.worked) ≡ true → sent_tests h.log ≡ true →
@@ -146,7 +146,7 @@ no_lucky_tag e h ha hs =
           apart_tested (with_tag e a) (with_tag e b)
           (every_in (apart_test (with_tag e a)) l (with_tag e b)
           (every_in (λ c. every (apart_test c) l) l (with_tag e a) ha (in_tags e h.worked a i)) (in_tags e h.worked b j)) q;
-      sent-before = sent-tested h.log hs;
+      sent_before = sent_tested h.log hs;
     }
 
 -- a nonce is read as it was written

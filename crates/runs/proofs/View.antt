@@ -146,10 +146,10 @@ module _ {C K L : Type 0} (m : Setting C K L) where
   at_invite n o (holding s) = stay_fob (holding s) []
   at_invite n o (opened s k c) = stay_fob (opened s k c) []
 
-  at-answer :
+  at_answer :
       (n t w o : Octets) (g : Ghost) →
       Moves WasMixer AtMixer g (answer_at m.pid m.cipher m.lookups.mixer_own m.lookups.mixer_replies (shown_mixer g) n t w o)
-  at-answer n t w o fresh =
+  at_answer n t w o fresh =
       let own : L → Octets = m.lookups.mixer_own in
       let replies : L → Octets → Reply = m.lookups.mixer_replies in
       let P : Result SessionKeys Fault → Type 0 =
@@ -172,15 +172,15 @@ module _ {C K L : Type 0} (m : Setting C K L) where
         qa_25 = label_length m.pid t ok;
       } in
       record { next = holding s; step = answering s refl; was = inl refl })))
-  at-answer n t w o (invited k) = stay_mixer (invited k) []
-  at-answer n t w o (holding s) = stay_mixer (holding s) []
-  at-answer n t w o (opened s k c) = stay_mixer (opened s k c) []
+  at_answer n t w o (invited k) = stay_mixer (invited k) []
+  at_answer n t w o (holding s) = stay_mixer (holding s) []
+  at_answer n t w o (opened s k c) = stay_mixer (opened s k c) []
 
-  at-prove :
+  at_prove :
       (t w o : Octets) (g : Ghost) →
       Moves WasFob AtFob g (prove_at m.pid m.cipher m.lookups.fob_own m.lookups.fob_replies (shown_fob g) t w o)
-  at-prove t w o fresh = stay_fob fresh []
-  at-prove t w o (invited n) =
+  at_prove t w o fresh = stay_fob fresh []
+  at_prove t w o (invited n) =
       let own : K → Octets = m.lookups.fob_own in
       let replies : K → Octets → Reply = m.lookups.fob_replies in
       let i : Invited C K = to_invited m.fob m.fob_key (record { octets = n }) in
@@ -202,8 +202,8 @@ module _ {C K L : Type 0} (m : Setting C K L) where
         qa_25 = m.label_25;
       } in
       record { next = holding s; step = proving n s refl refl refl; was = inl refl })))
-  at-prove t w o (holding s) = stay_fob (holding s) []
-  at-prove t w o (opened s k c) = stay_fob (opened s k c) []
+  at_prove t w o (holding s) = stay_fob (holding s) []
+  at_prove t w o (opened s k c) = stay_fob (opened s k c) []
 
   at_confirm : (t w o : Octets) (g : Ghost) → Moves WasMixer AtMixer g (confirm_at m.pid m.cipher (shown_mixer g) t w o)
   at_confirm t w o fresh = stay_mixer fresh []
@@ -240,10 +240,10 @@ module _ {C K L : Type 0} (m : Setting C K L) where
     step : Step m x (opened s n c) (opened s number counter) d.events d.worked
     was : d.next ≡ open_at x b s number counter
 
-  seals-on :
+  seals_on :
       {A : Type 0} (x : Role) (b : Open C A) (s : Inputs) (n c : ℕ) (p w o : Octets) →
       StaysOpen x b s n c (sealed_by m.pid m.cipher (open_at x b s n c) p (seal_check (open_at x b s n c) p w o))
-  seals-on {A} x b s n c p w o =
+  seals_on {A} x b s n c p w o =
       let P : Result ℕ Fault → Type 0 = λ r. StaysOpen x b s n c (sealed_by m.pid m.cipher (open_at x b s n c) p r) in
       let no : (f : Fault) → P (Err f) = λ f. record { number = n; counter = c; step = nothing []; was = refl } in
       if_sized P no 256 w _ (if_not P no (ltb 4096 (length p)) _ _ λ fits. if_sized P no (21 + length p) o _
@@ -255,10 +255,10 @@ module _ {C K L : Type 0} (m : Setting C K L) where
         was = refl;
       }))
 
-  unseals-on :
+  unseals_on :
       {A : Type 0} (x : Role) (b : Open C A) (s : Inputs) (n c : ℕ) (t w o : Octets) →
       StaysOpen x b s n c (unsealed_by m.pid m.cipher (open_at x b s n c) t w o (unseal_check m.pid m.cipher (open_at x b s n c) t w o))
-  unseals-on {A} x b s n c t w o =
+  unseals_on {A} x b s n c t w o =
       let y : Open C A = open_at x b s n c in
       let size : ℕ = number_at t 6 in
       let P : Result (ℕ × ℕ) Fault → Type 0 =
@@ -287,92 +287,92 @@ module _ {C K L : Type 0} (m : Setting C K L) where
   at_open_fob : {s : Inputs} {n c : ℕ} {d : Done (Open C K)} → StaysOpen AtFob (open_fob (proved_at s)) s n c d → Moves WasFob AtFob (opened s n c) (at_fob ticket d)
   at_open_fob {s} h = record { next = opened s h.number h.counter; step = h.step; was = inl (ap (λ y. OpenFob y ticket) h.was) }
 
-  at-mixer :
+  at_open_mixer :
       {s : Inputs} {n c : ℕ} {d : Done (Open C L)} → StaysOpen AtMixer (open_mixer (answered_at s)) s n c d → Moves WasMixer AtMixer (opened s n c) (at_mixer ticket d)
-  at-mixer {s} h = record { next = opened s h.number h.counter; step = h.step; was = inl (ap (λ y. OpenMixer y ticket) h.was) }
+  at_open_mixer {s} h = record { next = opened s h.number h.counter; step = h.step; was = inl (ap (λ y. OpenMixer y ticket) h.was) }
 
-  open-fob :
+  open_fob_lem :
       (does : Open C K → Done (Open C K)) →
       ((s : Inputs) (n c : ℕ) → StaysOpen AtFob (open_fob (proved_at s)) s n c (does (open_at AtFob (open_fob (proved_at s)) s n c))) →
       (g : Ghost) → Moves WasFob AtFob g (open_fob_does does (shown_fob g))
-  open-fob does h fresh = stay_fob fresh []
-  open-fob does h (invited n) = stay_fob (invited n) []
-  open-fob does h (holding s) = stay_fob (holding s) []
-  open-fob does h (opened s n c) = at_open_fob (h s n c)
+  open_fob_lem does h fresh = stay_fob fresh []
+  open_fob_lem does h (invited n) = stay_fob (invited n) []
+  open_fob_lem does h (holding s) = stay_fob (holding s) []
+  open_fob_lem does h (opened s n c) = at_open_fob (h s n c)
 
-  open-mixer :
+  open_mixer_lem :
       (does : Open C L → Done (Open C L)) →
       ((s : Inputs) (n c : ℕ) → StaysOpen AtMixer (open_mixer (answered_at s)) s n c (does (open_at AtMixer (open_mixer (answered_at s)) s n c))) →
       (g : Ghost) → Moves WasMixer AtMixer g (open_mixer_does does (shown_mixer g))
-  open-mixer does h fresh = stay_mixer fresh []
-  open-mixer does h (invited n) = stay_mixer (invited n) []
-  open-mixer does h (holding s) = stay_mixer (holding s) []
-  open-mixer does h (opened s n c) = at-mixer (h s n c)
+  open_mixer_lem does h fresh = stay_mixer fresh []
+  open_mixer_lem does h (invited n) = stay_mixer (invited n) []
+  open_mixer_lem does h (holding s) = stay_mixer (holding s) []
+  open_mixer_lem does h (opened s n c) = at_open_mixer (h s n c)
 
   -- a call at an end as it stands, which does nothing where it has closed
-  now-fob :
+  now_fob :
       (act : FobSide C K → Done (FobSide C K)) → act ClosedFob ≡ idle ClosedFob → ((g : Ghost) → Moves WasFob AtFob g (act (shown_fob g))) →
       (g : Ghost) (st : FobSide C K) → WasFob g st → Moves WasFob AtFob g (act st)
-  now-fob act rests view g st (inl e) = subst (λ st. Moves WasFob AtFob g (act st)) (sym e) (view g)
-  now-fob act rests view g st (inr e) =
+  now_fob act rests view g st (inl e) = subst (λ st. Moves WasFob AtFob g (act st)) (sym e) (view g)
+  now_fob act rests view g st (inr e) =
       subst (λ d. Moves WasFob AtFob g d) (sym (ap act e ∙ rests)) (record { next = g; step = nothing []; was = inr refl })
 
-  now-mixer :
+  now_mixer :
       (act : MixerSide C L → Done (MixerSide C L)) → act ClosedMixer ≡ idle ClosedMixer →
       ((g : Ghost) → Moves WasMixer AtMixer g (act (shown_mixer g))) → (g : Ghost) (st : MixerSide C L) → WasMixer g st → Moves WasMixer AtMixer g (act st)
-  now-mixer act rests view g st (inl e) = subst (λ st. Moves WasMixer AtMixer g (act st)) (sym e) (view g)
-  now-mixer act rests view g st (inr e) =
+  now_mixer act rests view g st (inl e) = subst (λ st. Moves WasMixer AtMixer g (act st)) (sym e) (view g)
+  now_mixer act rests view g st (inr e) =
       subst (λ d. Moves WasMixer AtMixer g d) (sym (ap act e ∙ rests)) (record { next = g; step = nothing []; was = inr refl })
 
-  pub view-invite :
+  pub view_invite :
       (n o : Octets) (g : Ghost) (st : FobSide C K) → WasFob g st → Moves WasFob AtFob g (invite_at m.lookups.fob_own st n o)
-  view-invite n o = now-fob (λ st. invite_at m.lookups.fob_own st n o) refl (at_invite n o)
+  view_invite n o = now_fob (λ st. invite_at m.lookups.fob_own st n o) refl (at_invite n o)
 
-  pub view-answer :
+  pub view_answer :
       (n t w o : Octets) (g : Ghost) (st : MixerSide C L) → WasMixer g st →
       Moves WasMixer AtMixer g (answer_at m.pid m.cipher m.lookups.mixer_own m.lookups.mixer_replies st n t w o)
-  view-answer n t w o =
-      now-mixer (λ st. answer_at m.pid m.cipher m.lookups.mixer_own m.lookups.mixer_replies st n t w o) refl (at-answer n t w o)
+  view_answer n t w o =
+      now_mixer (λ st. answer_at m.pid m.cipher m.lookups.mixer_own m.lookups.mixer_replies st n t w o) refl (at_answer n t w o)
 
-  pub view-prove :
+  pub view_prove :
       (t w o : Octets) (g : Ghost) (st : FobSide C K) → WasFob g st →
       Moves WasFob AtFob g (prove_at m.pid m.cipher m.lookups.fob_own m.lookups.fob_replies st t w o)
-  view-prove t w o = now-fob (λ st. prove_at m.pid m.cipher m.lookups.fob_own m.lookups.fob_replies st t w o) refl (at-prove t w o)
+  view_prove t w o = now_fob (λ st. prove_at m.pid m.cipher m.lookups.fob_own m.lookups.fob_replies st t w o) refl (at_prove t w o)
 
-  pub view-confirm :
+  pub view_confirm :
       (t w o : Octets) (g : Ghost) (st : MixerSide C L) → WasMixer g st → Moves WasMixer AtMixer g (confirm_at m.pid m.cipher st t w o)
-  view-confirm t w o = now-mixer (λ st. confirm_at m.pid m.cipher st t w o) refl (at_confirm t w o)
+  view_confirm t w o = now_mixer (λ st. confirm_at m.pid m.cipher st t w o) refl (at_confirm t w o)
 
-  pub view-finish :
+  pub view_finish :
       (t w : Octets) (g : Ghost) (st : FobSide C K) → WasFob g st → Moves WasFob AtFob g (finish_at m.pid m.cipher st t w)
-  view-finish t w = now-fob (λ st. finish_at m.pid m.cipher st t w) refl (at_finish t w)
+  view_finish t w = now_fob (λ st. finish_at m.pid m.cipher st t w) refl (at_finish t w)
 
-  pub view-seal-fob :
+  pub view_seal_fob :
       (p w o : Octets) (g : Ghost) (st : FobSide C K) → WasFob g st →
       Moves WasFob AtFob g (open_fob_does (λ x. sealed_by m.pid m.cipher x p (seal_check x p w o)) st)
-  view-seal-fob p w o =
-      now-fob (λ st. open_fob_does (λ x. sealed_by m.pid m.cipher x p (seal_check x p w o)) st) refl
-      (open-fob (λ x. sealed_by m.pid m.cipher x p (seal_check x p w o)) (λ s n c. seals-on AtFob (open_fob (proved_at s)) s n c p w o))
+  view_seal_fob p w o =
+      now_fob (λ st. open_fob_does (λ x. sealed_by m.pid m.cipher x p (seal_check x p w o)) st) refl
+      (open_fob_lem (λ x. sealed_by m.pid m.cipher x p (seal_check x p w o)) (λ s n c. seals_on AtFob (open_fob (proved_at s)) s n c p w o))
 
-  pub view-seal-mixer :
+  pub view_seal_mixer :
       (p w o : Octets) (g : Ghost) (st : MixerSide C L) → WasMixer g st →
       Moves WasMixer AtMixer g (open_mixer_does (λ x. sealed_by m.pid m.cipher x p (seal_check x p w o)) st)
-  view-seal-mixer p w o =
-      now-mixer (λ st. open_mixer_does (λ x. sealed_by m.pid m.cipher x p (seal_check x p w o)) st) refl
-      (open-mixer (λ x. sealed_by m.pid m.cipher x p (seal_check x p w o)) (λ s n c. seals-on AtMixer (open_mixer (answered_at s)) s n c p w o))
+  view_seal_mixer p w o =
+      now_mixer (λ st. open_mixer_does (λ x. sealed_by m.pid m.cipher x p (seal_check x p w o)) st) refl
+      (open_mixer_lem (λ x. sealed_by m.pid m.cipher x p (seal_check x p w o)) (λ s n c. seals_on AtMixer (open_mixer (answered_at s)) s n c p w o))
 
-  pub view-unseal-fob :
+  pub view_unseal_fob :
       (t w o : Octets) (g : Ghost) (st : FobSide C K) → WasFob g st →
       Moves WasFob AtFob g (open_fob_does (λ x. unsealed_by m.pid m.cipher x t w o (unseal_check m.pid m.cipher x t w o)) st)
-  view-unseal-fob t w o =
-      now-fob (λ st. open_fob_does (λ x. unsealed_by m.pid m.cipher x t w o (unseal_check m.pid m.cipher x t w o)) st) refl
-      (open-fob (λ x. unsealed_by m.pid m.cipher x t w o (unseal_check m.pid m.cipher x t w o))
-      (λ s n c. unseals-on AtFob (open_fob (proved_at s)) s n c t w o))
+  view_unseal_fob t w o =
+      now_fob (λ st. open_fob_does (λ x. unsealed_by m.pid m.cipher x t w o (unseal_check m.pid m.cipher x t w o)) st) refl
+      (open_fob_lem (λ x. unsealed_by m.pid m.cipher x t w o (unseal_check m.pid m.cipher x t w o))
+      (λ s n c. unseals_on AtFob (open_fob (proved_at s)) s n c t w o))
 
-  pub view-unseal-mixer :
+  pub view_unseal_mixer :
       (t w o : Octets) (g : Ghost) (st : MixerSide C L) → WasMixer g st →
       Moves WasMixer AtMixer g (open_mixer_does (λ x. unsealed_by m.pid m.cipher x t w o (unseal_check m.pid m.cipher x t w o)) st)
-  view-unseal-mixer t w o =
-      now-mixer (λ st. open_mixer_does (λ x. unsealed_by m.pid m.cipher x t w o (unseal_check m.pid m.cipher x t w o)) st) refl
-      (open-mixer (λ x. unsealed_by m.pid m.cipher x t w o (unseal_check m.pid m.cipher x t w o))
-      (λ s n c. unseals-on AtMixer (open_mixer (answered_at s)) s n c t w o))
+  view_unseal_mixer t w o =
+      now_mixer (λ st. open_mixer_does (λ x. unsealed_by m.pid m.cipher x t w o (unseal_check m.pid m.cipher x t w o)) st) refl
+      (open_mixer_lem (λ x. unsealed_by m.pid m.cipher x t w o (unseal_check m.pid m.cipher x t w o))
+      (λ s n c. unseals_on AtMixer (open_mixer (answered_at s)) s n c t w o))

@@ -13,11 +13,11 @@ use Rattle.runs.specs.History.{Call, invite, answer, prove, confirm, finish, sea
 use Rattle.runs.specs.Law.{other, ◌∈◌, Everywhere, sealed, unsealed, NoncesAsSent, FobHolds, MixerHolds, UpToLast, Law, LawOfRuns}
 use Rattle.runs.proofs.Model.{Octets, Inputs, Setting, Ghost, fresh, invited, holding, opened, seeded, mk, ke, ki, iv, mk_string, ki_string, results, proof, tagged, crypt, Step, nothing, inviting, answering, proving, confirming, finishing, sealing, unsealing}
 use Rattle.runs.proofs.Base.{in_append}
-use Rattle.runs.proofs.Flow.{all_in, flow-up-to-last, flow_swap}
+use Rattle.runs.proofs.Flow.{all_in, flow_up_to_last, flow_swap}
 use Rattle.runs.proofs.Facts.{IsOpen, Early, Says, Derived, Live, Both, SentBefore, Facts}
 use Rattle.runs.proofs.Moves.{FactsAt}
-use Rattle.runs.proofs.Steps.{invite-keeps, answer_keeps, prove-keeps, confirm-keeps, finish-keeps, seal-keeps, unseal-keeps}
-use Rattle.runs.proofs.View.{shown_fob, shown_mixer, WasFob, WasMixer, Moves, view-invite, view-answer, view-prove, view-confirm, view-finish, view-seal-fob, view-seal-mixer, view-unseal-fob, view-unseal-mixer}
+use Rattle.runs.proofs.Steps.{invite_keeps, answer_keeps, prove_keeps, confirm_keeps, finish_keeps, seal_keeps, unseal_keeps}
+use Rattle.runs.proofs.View.{shown_fob, shown_mixer, WasFob, WasMixer, Moves, view_invite, view_answer, view_prove, view_confirm, view_finish, view_seal_fob, view_seal_mixer, view_unseal_fob, view_unseal_mixer}
 
 before_logged : (P : Entry → List Entry → Type 0) (x : Role) (es : List Event) (log : List Entry) → Everywhere P (logged x es log) → Everywhere P log
 before_logged P x [] log h = h
@@ -37,22 +37,22 @@ module _ {C K L : Type 0} (m : Setting C K L) where
       ((k : Keyed) → k ∈ (ks ++ l) → m.Worked k) → Everywhere (SentBefore m) (logged x es log) → FactsAt m x log a b →
       FactsAt m x (logged x es log) a' b
   keep x a a' b es ks l log (nothing ks') w sent h = h
-  keep x a a' b es ks l log (inviting na) w sent h = invite-keeps m log b na h
+  keep x a a' b es ks l log (inviting na) w sent h = invite_keeps m log b na h
   keep x a a' b es ks l log (answering s named) w sent h = answer_keeps m log b s named (derived_from s l w) h
   keep x a a' b es ks l log (proving na s named en eq) w sent h =
-      prove-keeps m log b na s named en eq (derived_from s l (λ k i. w k (inr i))) (w (mk m s, proof m AtFob s) (inl refl)) h
+      prove_keeps m log b na s named en eq (derived_from s l (λ k i. w k (inr i))) (w (mk m s, proof m AtFob s) (inl refl)) h
   keep x a a' b es ks l log (confirming s t q) w sent h =
       subst
       (λ (t : Octets). Facts m (AtMixer did sends (tagged m (mk m s) (proof m AtMixer s)) ∷ AtMixer did opens ∷ AtMixer did accepts t ∷ log) b
       (opened s 0 (iv m s))) (sym q)
-      (confirm-keeps m log b s (w (mk m s, proof m AtFob s) (inr (inl refl))) (w (mk m s, proof m AtMixer s) (inl refl))
+      (confirm_keeps m log b s (w (mk m s, proof m AtFob s) (inr (inl refl))) (w (mk m s, proof m AtMixer s) (inl refl))
       (subst (λ (t : Octets). AtFob did sends t ∈ log) q (sent.1.1.0 AtMixer t refl)) h)
-  keep x a a' b es ks l log (finishing s t ks') w sent h = finish-keeps m log b s t (sent.1.0 AtFob t refl) h
+  keep x a a' b es ks l log (finishing s t ks') w sent h = finish_keeps m log b s t (sent.1.0 AtFob t refl) h
   keep x a a' b es ks l log (sealing s n c p fits small turn) w sent h =
-      seal-keeps m x log b s n c p fits small turn (w (ki m s, packet (n + 1) (crypt m (ke m s) c p)) (inl refl)) h
+      seal_keeps m x log b s n c p fits small turn (w (ki m s, packet (n + 1) (crypt m (ke m s) c p)) (inl refl)) h
   keep x a a' b es ks l log (unsealing s n c k size d t out small is long q right) w sent h =
       subst (λ (k : ℕ). FactsAt m x (x did unseals k out ∷ x did accepts t ∷ log) (opened s (n + 1) (moved c size)) b) (sym is)
-      (unseal-keeps m x log b s n c size d t out small long right
+      (unseal_keeps m x log b s n c size d t out small long right
       (subst (λ (k : ℕ). m.Worked (ki m s, packet k d)) is (w (ki m s, packet k d) (inl refl)))
       (subst (λ (k : ℕ). t ≡ tagged m (ki m s) (packet k d)) is q) (sent.1.0 x t refl) h)
 
@@ -87,9 +87,9 @@ module _ {C K L : Type 0} (m : Setting C K L) where
     log_before : Everywhere (SentBefore m) h'.log → Everywhere (SentBefore m) h.log
     keeps : ((k : Keyed) → k ∈ h'.worked → m.Worked k) → Everywhere (SentBefore m) h'.log → Inv h → Inv h'
 
-  fob-next :
+  fob_next :
       (h : History C K L) (d : Done (FobSide C K)) → ((g : Ghost) → WasFob m g h.fob → Moves m (WasFob m) AtFob g d) → Next h (fob_did h d)
-  fob-next h d view =
+  fob_next h d view =
       record {
         worked_on = λ k i. in_append d.worked h.worked k i;
         log_before = λ s. before_logged (SentBefore m) AtFob d.events h.log s;
@@ -105,9 +105,9 @@ module _ {C K L : Type 0} (m : Setting C K L) where
             };
       }
 
-  mixer-next :
+  mixer_next :
       (h : History C K L) (d : Done (MixerSide C L)) → ((g : Ghost) → WasMixer m g h.mixer → Moves m (WasMixer m) AtMixer g d) → Next h (mixer_did h d)
-  mixer-next h d view =
+  mixer_next h d view =
       record {
         worked_on = λ k i. in_append d.worked h.worked k i;
         log_before = λ s. before_logged (SentBefore m) AtMixer d.events h.log s;
@@ -127,26 +127,26 @@ module _ {C K L : Type 0} (m : Setting C K L) where
   onward h c = step m.pid m.cipher m.lookups h c
 
   next : (h : History C K L) (c : Call) → Next h (onward h c)
-  next h (invite n o) = fob-next h (invite_at m.lookups.fob_own h.fob n o) (λ g. view-invite m n o g h.fob)
+  next h (invite n o) = fob_next h (invite_at m.lookups.fob_own h.fob n o) (λ g. view_invite m n o g h.fob)
   next h (answer n t w o) =
-      mixer-next h (answer_at m.pid m.cipher m.lookups.mixer_own m.lookups.mixer_replies h.mixer n t w o)
-      (λ g. view-answer m n t w o g h.mixer)
+      mixer_next h (answer_at m.pid m.cipher m.lookups.mixer_own m.lookups.mixer_replies h.mixer n t w o)
+      (λ g. view_answer m n t w o g h.mixer)
   next h (prove t w o) =
-      fob-next h (prove_at m.pid m.cipher m.lookups.fob_own m.lookups.fob_replies h.fob t w o) (λ g. view-prove m t w o g h.fob)
-  next h (confirm t w o) = mixer-next h (confirm_at m.pid m.cipher h.mixer t w o) (λ g. view-confirm m t w o g h.mixer)
-  next h (finish t w) = fob-next h (finish_at m.pid m.cipher h.fob t w) (λ g. view-finish m t w g h.fob)
+      fob_next h (prove_at m.pid m.cipher m.lookups.fob_own m.lookups.fob_replies h.fob t w o) (λ g. view_prove m t w o g h.fob)
+  next h (confirm t w o) = mixer_next h (confirm_at m.pid m.cipher h.mixer t w o) (λ g. view_confirm m t w o g h.mixer)
+  next h (finish t w) = fob_next h (finish_at m.pid m.cipher h.fob t w) (λ g. view_finish m t w g h.fob)
   next h (seal AtFob p w o) =
-      fob-next h (open_fob_does (λ x. sealed_by m.pid m.cipher x p (seal_check x p w o)) h.fob) (λ g. view-seal-fob m p w o g h.fob)
+      fob_next h (open_fob_does (λ x. sealed_by m.pid m.cipher x p (seal_check x p w o)) h.fob) (λ g. view_seal_fob m p w o g h.fob)
   next h (seal AtMixer p w o) =
-      mixer-next h (open_mixer_does (λ x. sealed_by m.pid m.cipher x p (seal_check x p w o)) h.mixer) (λ g. view-seal-mixer m p w o g h.mixer)
+      mixer_next h (open_mixer_does (λ x. sealed_by m.pid m.cipher x p (seal_check x p w o)) h.mixer) (λ g. view_seal_mixer m p w o g h.mixer)
   next h (unseal AtFob t w o) =
-      fob-next h (open_fob_does (λ x. unsealed_by m.pid m.cipher x t w o (unseal_check m.pid m.cipher x t w o)) h.fob)
-      (λ g. view-unseal-fob m t w o g h.fob)
+      fob_next h (open_fob_does (λ x. unsealed_by m.pid m.cipher x t w o (unseal_check m.pid m.cipher x t w o)) h.fob)
+      (λ g. view_unseal_fob m t w o g h.fob)
   next h (unseal AtMixer t w o) =
-      mixer-next h (open_mixer_does (λ x. unsealed_by m.pid m.cipher x t w o (unseal_check m.pid m.cipher x t w o)) h.mixer)
-      (λ g. view-unseal-mixer m t w o g h.mixer)
-  next h (close AtFob) = fob-next h (idle ClosedFob) (λ g e. record { next = g; step = nothing []; was = inr refl })
-  next h (close AtMixer) = mixer-next h (idle ClosedMixer) (λ g e. record { next = g; step = nothing []; was = inr refl })
+      mixer_next h (open_mixer_does (λ x. unsealed_by m.pid m.cipher x t w o (unseal_check m.pid m.cipher x t w o)) h.mixer)
+      (λ g. view_unseal_mixer m t w o g h.mixer)
+  next h (close AtFob) = fob_next h (idle ClosedFob) (λ g e. record { next = g; step = nothing []; was = inr refl })
+  next h (close AtMixer) = mixer_next h (idle ClosedMixer) (λ g e. record { next = g; step = nothing []; was = inr refl })
 
   on_worked : (calls : List Call) (h : History C K L) (k : Keyed) → k ∈ h.worked → k ∈ (fold onward h calls).worked
   on_worked [] h k i = i
@@ -199,11 +199,11 @@ module _ {C K L : Type 0} (m : Setting C K L) where
   payloads_early log h AtFob = inl (h.unsealed_f ∙ sym h.sealed_m)
   payloads_early log h AtMixer = inl (h.unsealed_m ∙ sym h.sealed_f)
 
-  payloads-live :
+  payloads_live :
       (log : List Entry) (sf : Inputs) (nf cf : ℕ) (sm : Inputs) (nm cm : ℕ) → Live m log sf nf cf sm nm cm → NoncesAsSent log →
       (x : Role) → UpToLast (unsealed x log) (sealed (other x) log)
-  payloads-live log sf nf cf sm nm cm h a AtFob = flow-up-to-last (h.flow a)
-  payloads-live log sf nf cf sm nm cm h a AtMixer = flow-up-to-last (flow_swap (h.flow a))
+  payloads_live log sf nf cf sm nm cm h a AtFob = flow_up_to_last (h.flow a)
+  payloads_live log sf nf cf sm nm cm h a AtMixer = flow_up_to_last (flow_swap (h.flow a))
 
   payloads :
       (log : List Entry) (f g : Ghost) → Both m log f g → NoncesAsSent log → (x : Role) → UpToLast (unsealed x log) (sealed (other x) log)
@@ -212,8 +212,8 @@ module _ {C K L : Type 0} (m : Setting C K L) where
   payloads log f (holding t) h a x = payloads_early log h.1 x
   payloads log fresh (opened t n c) h a x = absurd h
   payloads log (invited k) (opened t n c) h a x = absurd h
-  payloads log (holding u) (opened t n c) h a x = payloads-live log u 0 (iv m u) t n c h a x
-  payloads log (opened u k d) (opened t n c) h a x = payloads-live log u k d t n c h a x
+  payloads log (holding u) (opened t n c) h a x = payloads_live log u 0 (iv m u) t n c h a x
+  payloads log (opened u k d) (opened t n c) h a x = payloads_live log u k d t n c h a x
 
   law_from : (h : History C K L) → Inv h → Law m.fob m.mixer h
   law_from h i =
@@ -252,4 +252,4 @@ law_of_runs C K L pid e u f k x l named fob_25 mixer_25 calls h =
       Worked = λ a. a ∈ (history pid e u f k x l calls).worked;
       apart = h.apart;
     } in
-    law_from m (history pid e u f k x l calls) (always m calls (start f k x l) (λ a i. i) h.sent-before (begins m))
+    law_from m (history pid e u f k x l calls) (always m calls (start f k x l) (λ a i. i) h.sent_before (begins m))

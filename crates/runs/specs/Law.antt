@@ -69,7 +69,7 @@ unsealed x (y did k ∷ past) = when x y (unsealed_in k) ++ unsealed x past
 pub record NoLuckyTag {C K L : Type 0} (e : List ℕ → List ℕ → List ℕ) (h : History C K L) : Type 0 where
   pub apart :
       (a b : Keyed) → a ∈ h.worked → b ∈ h.worked → tag e a.0 a.1 ≡ tag e b.0 b.1 → (a.0 ≡ b.0) × (a.1 ≡ b.1)
-  pub sent-before :
+  pub sent_before :
       Everywhere (λ x past. (r : Role) (t : List ℕ) → x ≡ r did accepts t → other r did sends t ∈ past) h.log
 
 -- a nonce that was written by one end and read by the other was read as written

@@ -49,7 +49,7 @@ pub record Buffers : Type 0 where
   pub finish_space : 256 ≤ length finish_workspace
 
 module _ {C K L : Type 0} (pid : ℕ) (e : List ℕ → List ℕ → List ℕ) (u : Lookups K L) where
-  -- every call of the handshake is accepted, given what the other end wrote, and both open at number 0 with the same keys and counter and the keys that they were given
+  -- every call of the handshake is accepted, given what the other end wrote, and both open at number 0 with the same keys and counter
   pub record Opened (f : Fob C) (k : K) (na : Nonce) (x : Mixer C) (l : L) (nb : Nonce) (b : Buffers) : Type 0 where
     pub waiting : Invited C K
     pub answering : Answered C L
@@ -85,8 +85,6 @@ module _ {C K L : Type 0} (pid : ℕ) (e : List ℕ → List ℕ → List ℕ) (
     pub mixer_role : mixer.role ≡ AtMixer
     pub same_epoch : fob.epoch ≡ mixer.epoch
     pub at_zero : fob.epoch.number ≡ 0
-    pub fob_key : fob.key ≡ k
-    pub mixer_key : mixer.key ≡ l
 
 -- for every cipher meaning, any nonces, equal identities and lookups that answer each other with one secret
 abbrev pub OpensUnaltered : (C K L : Type 0) → Type 0
@@ -132,6 +130,12 @@ EndsAtLast C K =
     (pid : ℕ) (e : List ℕ → List ℕ → List ℕ) (x : Open C K) → x.epoch.number ≡ 16777215
     → (p m w o : List ℕ) → length p ≤ 4096 → 256 ≤ length w → 4117 ≤ length o
     → (seal_check x p w o ≡ Err (host_fault LastNumber)) × (unseal_check pid e x m w o ≡ Err (host_fault LastNumber))
+
+-- an unaltered handshake whose ends keep the keys that they were given
+pub record OpenedWith {C K L : Type 0} (pid : ℕ) (e : List ℕ → List ℕ → List ℕ) (u : Lookups K L) (f : Fob C) (k : K) (na : Nonce) (x : Mixer C) (l : L) (nb : Nonce) (b : Buffers) : Type 0 where
+  pub opened : Opened pid e u f k na x l nb b
+  pub fob_key : opened.fob.key ≡ k
+  pub mixer_key : opened.mixer.key ≡ l
 
 -- both ends have the same keys and counter, and the number n
 pub record Level {C K L : Type 0} (f : Open C K) (x : Open C L) (n : ℕ) : Type 0 where

@@ -22,24 +22,24 @@ use Rattle.sessions.specs.declared.unaltered.Ended.{Ended}
 use Rattle.sessions.specs.declared.handshake.Unopened.{Unopened}
 use Rattle.channel.specs.Packets.{seal_end, unseal_end}
 use Rattle.runs.specs.History.{Lookups}
-use Rattle.runs.specs.Unaltered.{Blocks, Buffers, Opened, Small}
+use Rattle.runs.specs.Unaltered.{Blocks, Buffers, Opened, OpenedWith, Small}
 use Rattle.sessions.specs.Sessions.{zeros, fobs_turn, pair_after, comes_through, how_many, pair_after_all}
-use Rattle.sessions.specs.Both.{Honest, thenFinished, thenConfirmed, thenProved, thenAnswered, thenInvited, opened_both, Both, thenPassed, ended_at}
+use Rattle.sessions.specs.Both.{Honest, then_finished, then_confirmed, then_proved, then_answered, then_invited, opened_both, Both, then_passed, ended_at}
 use Rattle.runs.proofs.Fields.{tag_12}
-use Rattle.runs.proofs.Opening.{opens_unaltered}
+use Rattle.runs.proofs.Opening.{opens_with}
 use Rattle.sessions.proofs.Pairs.{field, levels, level_mixer}
 use Rattle.message.proofs.Again.{passed, went_on}
 use Rattle.channel.proofs.Checks.{after_check}
 use Rattle.sessions.proofs.Payloads.{zeros_length}
 
 -- a message that fills its buffer is the whole buffer
-whole-buffer :
+whole_buffer :
     {W : Type 0} (n : ℕ) (f : W → List ℕ) (o : List ℕ) (r : Result W Fault) → length o ≡ n → ((w : W) → r ≡ Ok w → length (f w) ≡ n) →
     take n (written n f r o) ≡ written n f r o
-whole-buffer n f o (Ok w) h g =
+whole_buffer n f o (Ok w) h g =
     let a : length (f w) ≡ n = g w refl in
     take_all n (f w ++ drop n o) (omega (arith, length-append (f w) (drop n o), length-drop n o))
-whole-buffer n f o (Err z) h g = take_all n o (omega arith)
+whole_buffer n f o (Err z) h g = take_all n o (omega arith)
 
 act_length : (k pid : ℕ) (q n : List ℕ) → length q ≡ 25 → length n ≡ 12 → length (octets_of k pid (act q n)) ≡ 40
 act_length k pid q n hq hn = omega (arith, length-append q n)
@@ -52,20 +52,20 @@ with_secret (Secret z) f h = (z, h)
 with_secret Invalid f h = let z : ◌≡◌ {A = ℕ} 0 1 = cc in absurd (omega arith)
 
 -- the tags that accepted calls write have twelve octets
-proof-12 :
+proof_12 :
     {P : Type 0} (pid : ℕ) (m w o : List ℕ) (y : Reply) (f : List ℕ → P) (t : P → List ℕ) (p : P) →
     sized 256 w (sized 15 o (and_then (checked 2 pid m) (secret_or y λ z. Ok (f z)))) ≡ Ok p → ((z : List ℕ) → length (t (f z)) ≡ 12) → length (t p) ≡ 12
-proof-12 pid m w o y f t p h g =
+proof_12 pid m w o y f t p h g =
     let a = went_on (ltb (length o) 15) _ _ (went_on (ltb (length w) 256) _ _ h).1 in
     let s = with_secret y _ (after_check (checked 2 pid m) _ a.1).1 in
     let q : Ok (f s.0) ≡ Ok p = s.1 in
     let d : f s.0 ≡ p = cc in
     ap (λ v. length (t v)) (sym d) ∙ g s.0
 
-confirm-12 :
+confirm_12 :
     {C K : Type 0} (pid : ℕ) (e : List ℕ → List ℕ → List ℕ) → Blocks e → (a : Answered C K) (m w o t : List ℕ) →
     confirm_check pid e a m w o ≡ Ok t → length t ≡ 12
-confirm-12 pid e whole a m w o t h =
+confirm_12 pid e whole a m w o t h =
     let b = went_on (ltb (length o) 15) _ _ (went_on (ltb (length w) 256) _ _ h).1 in
     let q : Ok (confirmation_tag pid e OfMixer a.session) ≡ Ok t =
     (passed (bytes_eq (confirmation_tag pid e OfFob a.session) (tag_in m)) _ _ (after_check (checked 3 pid m) _ b.1).1).1 in
@@ -98,8 +98,11 @@ buffers =
 
 module _ {C K L : Type 0} (pid : ℕ) (e : List ℕ → List ℕ → List ℕ) (u : Lookups K L) (f : Fob C) (k : K) (na : Nonce) (x : Mixer C) (l : L) (nb : Nonce)
     (whole : Blocks e) (h : Honest u f k na x l nb) where
-  pub o : Opened pid e u f k na x l nb buffers
-  o = opens_unaltered C K L pid e u f k na x l nb buffers whole h.identities h.paired h.fob_nonce h.mixer_nonce
+  pub kept : OpenedWith pid e u f k na x l nb buffers
+  kept = opens_with pid e u f k na x l nb buffers whole h.identities h.paired h.fob_nonce h.mixer_nonce
+
+  abbrev pub o : Opened pid e u f k na x l nb buffers
+  o = kept.opened
 
   -- what each call wrote
   abbrev pub first : List ℕ
@@ -116,51 +119,51 @@ module _ {C K L : Type 0} (pid : ℕ) (e : List ℕ → List ℕ → List ℕ) (
 
   first_whole : take 40 first ≡ first
   first_whole =
-      whole-buffer 40 (λ v. octets_of 1 pid (act (u.fob_own k) na.octets)) (zeros 40) (invite_check (zeros 40)) (zeros_length 40)
+      whole_buffer 40 (λ v. octets_of 1 pid (act (u.fob_own k) na.octets)) (zeros 40) (invite_check (zeros 40)) (zeros_length 40)
       (λ v i. act_length 1 pid (u.fob_own k) na.octets h.paired.fob_25 h.fob_nonce)
 
   second_whole : take 40 second ≡ second
   second_whole =
-      whole-buffer 40 (λ v. octets_of 2 pid (act (u.mixer_own l) nb.octets)) (zeros 40)
+      whole_buffer 40 (λ v. octets_of 2 pid (act (u.mixer_own l) nb.octets)) (zeros 40)
       (answer_check pid e u.mixer_own u.mixer_replies x l nb (take 40 first) (zeros 256) (zeros 40)) (zeros_length 40)
       (λ v i. act_length 2 pid (u.mixer_own l) nb.octets h.paired.mixer_25 h.mixer_nonce)
 
   third_whole : take 15 third ≡ third
   third_whole =
-      whole-buffer 15 (λ v. octets_of 3 pid (verify v.tag)) (zeros 15)
+      whole_buffer 15 (λ v. octets_of 3 pid (verify v.tag)) (zeros 15)
       (prove_check pid e u.fob_own u.fob_replies o.waiting (take 40 second) (zeros 256) (zeros 15)) (zeros_length 15)
-      (λ v i. verify_length 3 pid v.tag (proof-12 pid (take 40 second) (zeros 256) (zeros 15) _ _ (λ q. q.tag) v i (λ z. tag_12 e whole _ _)))
+      (λ v i. verify_length 3 pid v.tag (proof_12 pid (take 40 second) (zeros 256) (zeros 15) _ _ (λ q. q.tag) v i (λ z. tag_12 e whole _ _)))
 
   fourth_whole : take 15 fourth ≡ fourth
   fourth_whole =
-      whole-buffer 15 (λ v. octets_of 4 pid (verify v)) (zeros 15) (confirm_check pid e o.answering (take 15 third) (zeros 256) (zeros 15)) (zeros_length 15)
-      (λ v i. verify_length 4 pid v (confirm-12 pid e whole o.answering (take 15 third) (zeros 256) (zeros 15) v i))
+      whole_buffer 15 (λ v. octets_of 4 pid (verify v)) (zeros 15) (confirm_check pid e o.answering (take 15 third) (zeros 256) (zeros 15)) (zeros_length 15)
+      (λ v i. verify_length 4 pid v (confirm_12 pid e whole o.answering (take 15 third) (zeros 256) (zeros 15) v i))
 
   abbrev pub pair : Pair C K L
   pair = record { fob = o.fob; fob_ticket = ticket; mixer = o.mixer; mixer_ticket = ticket }
 
   five_calls : opened_both pid e u f k na x l nb ≡ Ok pair
   five_calls =
-      ap (thenInvited pid e u x l nb first) o.invites
-      ∙ ap (λ m. thenAnswered pid e u o.waiting (answer_output pid e u.mixer_own u.mixer_replies x l nb m (zeros 256) (zeros 40))
+      ap (then_invited pid e u x l nb first) o.invites
+      ∙ ap (λ m. then_answered pid e u o.waiting (answer_output pid e u.mixer_own u.mixer_replies x l nb m (zeros 256) (zeros 40))
       (answered pid e u.mixer_own u.mixer_replies x l nb m (zeros 256) (zeros 40))) (sym first_whole)
-      ∙ ap (thenAnswered pid e u o.waiting second) o.answers
-      ∙ ap (λ m. thenProved pid e o.answering (prove_output pid e u.fob_own u.fob_replies o.waiting m (zeros 256) (zeros 15))
+      ∙ ap (then_answered pid e u o.waiting second) o.answers
+      ∙ ap (λ m. then_proved pid e o.answering (prove_output pid e u.fob_own u.fob_replies o.waiting m (zeros 256) (zeros 15))
       (proven pid e u.fob_own u.fob_replies o.waiting m (zeros 256) (zeros 15))) (sym second_whole)
-      ∙ ap (thenProved pid e o.answering third) o.proves
-      ∙ ap (λ m. thenConfirmed pid e o.proved (confirm_output pid e o.answering m (zeros 256) (zeros 15))
+      ∙ ap (then_proved pid e o.answering third) o.proves
+      ∙ ap (λ m. then_confirmed pid e o.proved (confirm_output pid e o.answering m (zeros 256) (zeros 15))
       (confirmed pid e o.answering m (zeros 256) (zeros 15))) (sym third_whole)
-      ∙ ap (thenConfirmed pid e o.proved fourth) o.confirms
-      ∙ ap (λ m. thenFinished o.mixer ticket (finished pid e o.proved m (zeros 256))) (sym fourth_whole)
-      ∙ ap (thenFinished o.mixer ticket) o.finishes
+      ∙ ap (then_confirmed pid e o.proved fourth) o.confirms
+      ∙ ap (λ m. then_finished o.mixer ticket (finished pid e o.proved m (zeros 256))) (sym fourth_whole)
+      ∙ ap (then_finished o.mixer ticket) o.finishes
 
   pub both_open : {r : Result (Pair C K L) (Unopened K L)} → r ≡ opened_both pid e u f k na x l nb → Both k l r
   both_open v = record {
     pair = pair;
     opened = v ∙ five_calls;
     level = record { fob_role = o.fob_role; mixer_role = o.mixer_role; same = o.same_epoch; at = o.at_zero };
-    fob_key = o.fob_key;
-    mixer_key = o.mixer_key;
+    fob_key = kept.fob_key;
+    mixer_key = kept.mixer_key;
   }
 
 -- passing payloads keeps the keys
@@ -189,10 +192,10 @@ module _ {C K L : Type 0} (pid : ℕ) (e : List ℕ → List ℕ → List ℕ) w
       )
 
   -- the whole session of honest ends
-  pub session-ends :
+  pub session_ends :
       Blocks e → (k : K) (l : L) (q : Result (Pair C K L) (Unopened K L)) (ps : List (List ℕ)) (n : ℕ) (r : Result (Ended K L) (Unopened K L)) →
-      Both k l q → Small ps → length ps ≡ n → n ≤ 16777215 → r ≡ thenPassed pid e ps q → r ≡ Ok (ended_at n k l)
-  session-ends whole k l q ps n r b s long most v =
+      Both k l q → Small ps → length ps ≡ n → n ≤ 16777215 → r ≡ then_passed pid e ps q → r ≡ Ok (ended_at n k l)
+  session_ends whole k l q ps n r b s long most v =
       let x : Pair C K L = b.pair in
       let t = levels pid e whole x ps 0 b.level s in
       let w = all_keys x ps in
@@ -201,4 +204,4 @@ module _ {C K L : Type 0} (pid : ℕ) (e : List ℕ → List ℕ → List ℕ) w
       let j : (pair_after_all pid e x ps).mixer.epoch.number ≡ n = level_mixer t.1 ∙ omega arith in
       let y = w.0 ∙ b.fob_key in
       let z = w.1 ∙ b.mixer_key in
-      v ∙ ap (thenPassed pid e ps) b.opened ∙ (cc)
+      v ∙ ap (then_passed pid e ps) b.opened ∙ (cc)

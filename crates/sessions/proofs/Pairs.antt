@@ -17,7 +17,7 @@ use Rattle.runs.specs.Law.{other}
 use Rattle.runs.specs.Unaltered.{Blocks, Small, Level}
 use Rattle.sessions.specs.Sessions.{zeros, sealing, sealer_after, unsealing, unsealer_after, came_out, passing, Ready, Through, through, fobs_turn, fob_passes, mixer_passes, pair_after, comes_through, how_many, pair_after_all}
 use Rattle.runs.proofs.Passing.{turn_other, passes_one, level_next, turn_at}
-use Rattle.sessions.proofs.Payloads.{zeros_length, sealing-is, seal-refused, unsealed_answer, came-out}
+use Rattle.sessions.proofs.Payloads.{zeros_length, sealing_is, seal_refused, unsealed_answer, came-out}
 
 -- what the code reads past the last payload
 abbrev pub nothing : Bor (List ℕ)
@@ -40,7 +40,7 @@ module _ {C A B : Type 0} (pid : ℕ) (e : List ℕ → List ℕ → List ℕ) (
       ap (λ v. seals_at v s.epoch.number) ready.roles ∙ turn_other s.role s.epoch.number ready.turn in
       let one = passes_one pid e whole s r p ready.same ready.below ready.turn waits ready.small (zeros 256) (zeros 4117) (zeros 256) (zeros 4096)
       (omega arith) (omega arith) (omega arith) (omega arith) in
-      let sealed : sealing s p ≡ Ok n = sym (sealing-is s p (zeros 256) (zeros 4117) hw ho) ∙ one.seals in
+      let sealed : sealing s p ≡ Ok n = sym (sealing_is s p (zeros 256) (zeros 4117) hw ho) ∙ one.seals in
       let m : List ℕ = take n (seal_output pid e s p (zeros 256) (zeros 4117)) in
       let cut : m ≡ take (n - 0) (seal_output pid e s p (zeros 256) (zeros 4117)) =
       ap (λ v. take v (seal_output pid e s p (zeros 256) (zeros 4117))) (sym (sub-zero n)) in
@@ -65,9 +65,9 @@ sealing_ends s p h q =
     unless-passes (ltb 4096 (length p)) _ _ (le-ltb 4096 (length p) q) ∙ sized-passes (21 + length p) (zeros 4117) _ (omega arith)
     ∙ unless-refuses (leb 16777215 s.epoch.number) _ _ (le-leb 16777215 s.epoch.number h)
 
-level-as :
+level_as :
     {C K L : Type 0} {f f' : Open C K} {x x' : Open C L} {n : ℕ} → f ≡ f' → x ≡ x' → Level f' x' n → Level f x n
-level-as a b h = record {
+level_as a b h = record {
   fob_role = ap (λ v. v.role) a ∙ h.fob_role;
   mixer_role = ap (λ v. v.role) b ∙ h.mixer_role;
   same = ap (λ v. v.epoch) a ∙ h.same ∙ sym (ap (λ v. v.epoch) b);
@@ -107,10 +107,10 @@ either_way false a b = b
 module _ {C K L : Type 0} (pid : ℕ) (e : List ℕ → List ℕ → List ℕ) (whole : Blocks e) where
   -- both ends are level, and the payload goes from the one whose turn it is
   module _ (x : Pair C K L) (n : ℕ) (p : List ℕ) (h : Level x.fob x.mixer n) (small : length p ≤ 4096) where
-    fob-goes :
+    fob_goes :
         n < 16777215 → n % 2 ≡ 0 →
         (comes_through pid e x p ≡ true) × Level (pair_after pid e x p).fob (pair_after pid e x p).mixer (n + 1)
-    fob-goes below even =
+    fob_goes below even =
         let a : x.fob.epoch.number ≡ n = h.at in
         let turn : fobs_turn x ≡ true = ap (λ v. eqb (v % 2) 0) a ∙ eq-eqb (n % 2) 0 even in
         let ready : Ready x.fob x.mixer p = record {
@@ -123,14 +123,14 @@ module _ {C K L : Type 0} (pid : ℕ) (e : List ℕ → List ℕ → List ℕ) (
         let t = ready_through pid e whole x.fob x.mixer p ready in
         let after : pair_after pid e x p ≡ fob_passes pid e x p = ap (λ b. cond b (fob_passes pid e x p) (mixer_passes pid e x p)) turn in (
           ap (λ b. through (cond b (passing pid e x.fob x.mixer p) (passing pid e x.mixer x.fob p))) turn ∙ ap through t.came,
-          level-as (ap (λ (y : Pair C K L). y.fob) after ∙ t.sealer) (ap (λ (y : Pair C K L). y.mixer) after ∙ t.unsealer)
+          level_as (ap (λ (y : Pair C K L). y.fob) after ∙ t.sealer) (ap (λ (y : Pair C K L). y.mixer) after ∙ t.unsealer)
               (level_next x.fob x.mixer n (length p) h),
         )
 
-    mixer-goes :
+    mixer_goes :
         n < 16777215 → n % 2 ≡ 1 →
         (comes_through pid e x p ≡ true) × Level (pair_after pid e x p).fob (pair_after pid e x p).mixer (n + 1)
-    mixer-goes below odd =
+    mixer_goes below odd =
         let a : x.mixer.epoch.number ≡ n = level_mixer h in
         let turn : fobs_turn x ≡ false = ap (λ v. eqb (v % 2) 0) h.at ∙ ne_eqb (n % 2) 0 (λ z. omega arith) in
         let ready : Ready x.mixer x.fob p = record {
@@ -143,29 +143,29 @@ module _ {C K L : Type 0} (pid : ℕ) (e : List ℕ → List ℕ → List ℕ) (
         let t = ready_through pid e whole x.mixer x.fob p ready in
         let after : pair_after pid e x p ≡ mixer_passes pid e x p = ap (λ b. cond b (fob_passes pid e x p) (mixer_passes pid e x p)) turn in (
           ap (λ b. through (cond b (passing pid e x.fob x.mixer p) (passing pid e x.mixer x.fob p))) turn ∙ ap through t.came,
-          level-as (ap (λ (y : Pair C K L). y.fob) after ∙ t.unsealer) (ap (λ (y : Pair C K L). y.mixer) after ∙ t.sealer)
+          level_as (ap (λ (y : Pair C K L). y.fob) after ∙ t.unsealer) (ap (λ (y : Pair C K L). y.mixer) after ∙ t.sealer)
               (level_next x.fob x.mixer n (length p) h),
         )
 
-    pub level-goes :
+    pub level_goes :
         n < 16777215 → (comes_through pid e x p ≡ true) × Level (pair_after pid e x p).fob (pair_after pid e x p).mixer (n + 1)
-    level-goes below = elim (cases_eq (n % 2) 0) [ inl z ↦ fob-goes below z | inr z ↦ mixer-goes below (let o = mod_two n z in o) ]
+    level_goes below = elim (cases_eq (n % 2) 0) [ inl z ↦ fob_goes below z | inr z ↦ mixer_goes below (let o = mod_two n z in o) ]
 
-    pub level-ends :
+    pub level_ends :
         16777215 ≤ n → (comes_through pid e x p ≡ false) × Level (pair_after pid e x p).fob (pair_after pid e x p).mixer n
-    level-ends last =
+    level_ends last =
         let f : Fault = host_fault LastNumber in
         let a : x.fob.epoch.number ≡ n = h.at in
         let b : x.mixer.epoch.number ≡ n = level_mixer h in
         let sf : sealing x.fob p ≡ Err f = sealing_ends x.fob p (omega arith) small in
         let sm : sealing x.mixer p ≡ Err f = sealing_ends x.mixer p (omega arith) small in
-        let kf = seal-refused pid e x.fob x.mixer p f sf in
-        let km = seal-refused pid e x.mixer x.fob p f sm in
+        let kf = seal_refused pid e x.fob x.mixer p f sf in
+        let km = seal_refused pid e x.mixer x.fob p f sm in
         let ff : (pair_after pid e x p).fob ≡ x.fob =
         field (fobs_turn x) (λ (y : Pair C K L). y.fob) (ap (seal_end x.fob p) sf) km.1 in
         let mm : (pair_after pid e x p).mixer ≡ x.mixer =
         field (fobs_turn x) (λ (y : Pair C K L). y.mixer) kf.1 (ap (seal_end x.mixer p) sm) in
-        (ap through (either_way (fobs_turn x) kf.0 km.0), level-as ff mm h)
+        (ap through (either_way (fobs_turn x) kf.0 km.0), level_as ff mm h)
 
   -- all payloads, up to the last number
   pub levels :
@@ -175,19 +175,19 @@ module _ {C K L : Type 0} (pid : ℕ) (e : List ℕ → List ℕ → List ℕ) (
   levels x [] n h s = (sym (min-eq_left (omega arith)), level_at (omega arith) h)
   levels x (p ∷ ps) n h s = elim (cases_lt n 16777215) [
     | inl below ↦
-        let g = level-goes x n p h s.0 below in
+        let g = level_goes x n p h s.0 below in
         let k = levels (pair_after pid e x p) ps (n + 1) g.1 s.1 in
         let m : how_many pid e x (p ∷ ps) ≡ 1 + how_many pid e (pair_after pid e x p) ps = cond-true (comes_through pid e x p) _ _ g.0 in
         let y : pair_after_all pid e x (p ∷ ps) ≡ pair_after_all pid e (pair_after pid e x p) ps = cond-true (comes_through pid e x p) _ _ g.0 in (
           m ∙ ap (λ v. 1 + v) k.0 ∙ min_next (length ps) n below,
-          level-as (ap (λ (z : Pair C K L). z.fob) y) (ap (λ (z : Pair C K L). z.mixer) y) (level_at (omega arith) k.1),
+          level_as (ap (λ (z : Pair C K L). z.fob) y) (ap (λ (z : Pair C K L). z.mixer) y) (level_at (omega arith) k.1),
         )
     | inr last ↦
-        let g = level-ends x n p h s.0 last in
+        let g = level_ends x n p h s.0 last in
         let m : how_many pid e x (p ∷ ps) ≡ 0 = cond-false (comes_through pid e x p) _ _ g.0 in
         let y : pair_after_all pid e x (p ∷ ps) ≡ pair_after pid e x p = cond-false (comes_through pid e x p) _ _ g.0 in (
           m ∙ sym (min-eq_right (omega arith) ∙ omega arith),
-          level-as (ap (λ (z : Pair C K L). z.fob) y) (ap (λ (z : Pair C K L). z.mixer) y) (level_at (omega arith) g.1),
+          level_as (ap (λ (z : Pair C K L). z.fob) y) (ap (λ (z : Pair C K L). z.mixer) y) (level_at (omega arith) g.1),
         )
   ]
 
@@ -212,10 +212,10 @@ module _ {C K L : Type 0} (pid : ℕ) (e : List ℕ → List ℕ → List ℕ) (
             ∙ ap (λ z. pair_after_all pid e z (drop (i + 1) ps)) (sym moved);
       }
 
-  pub going-stops :
+  pub going_stops :
       (y : Pair C K L) (p : List ℕ) → i < length ps → get_or ps i [] ≡ p → y ≡ pair_after pid e x p → comes_through pid e x p ≡ false →
       (i ≡ how_many pid e start ps) × (y ≡ pair_after_all pid e start ps)
-  going-stops y p l is moved t =
+  going_stops y p l is moved t =
       let d : drop i ps ≡ p ∷ drop (i + 1) ps = drop_more ps i [] l ∙ ap (λ v. v ∷ drop (i + 1) ps) is in
       let m : how_many pid e x (p ∷ drop (i + 1) ps) ≡ 0 = cond-false (comes_through pid e x p) _ _ t in
       let k : how_many pid e x (drop i ps) ≡ how_many pid e x (p ∷ drop (i + 1) ps) = ap (how_many pid e x) d in
@@ -235,14 +235,14 @@ pub going_start : {C K L : Type 0} (pid : ℕ) (e : List ℕ → List ℕ → Li
 going_start pid e start ps = record { many = omega arith; after = refl }
 
 -- what honest ends make of all payloads, by what was answered
-pub honest-all :
+pub honest_all :
     {C K L : Type 0} (pid : ℕ) (e : List ℕ → List ℕ → List ℕ) → Blocks e → (start x : Pair C K L) (ps : List (List ℕ)) (k r : ℕ) →
     length ps ≡ k → (r ≡ how_many pid e start ps) × (x ≡ pair_after_all pid e start ps) → (n : ℕ) → Level start.fob start.mixer n → Small ps →
     (r ≡ min k (16777215 - n)) × Level x.fob x.mixer (n + r)
-honest-all pid e whole start x ps k r l (v, w) n h s =
+honest_all pid e whole start x ps k r l (v, w) n h s =
     let t = levels pid e whole start ps n h s in (
       v ∙ t.0 ∙ ap (λ m. min m (16777215 - n)) l,
-      level-as (ap (λ y. y.fob) w) (ap (λ y. y.mixer) w) (level_at (ap (λ m. n + m) (sym v)) t.1),
+      level_as (ap (λ y. y.fob) w) (ap (λ y. y.mixer) w) (level_at (ap (λ m. n + m) (sym v)) t.1),
     )
 
 pub small_replicate : (n : ℕ) (p : List ℕ) → length p ≤ 4096 → Small (replicate n p)

@@ -10,7 +10,8 @@ use Rattle.message.specs.Reading.{checked}
 use Rattle.message.specs.Writing.{octets_of, enc}
 use Rattle.channel.specs.declared.Open.{Open}
 use Rattle.channel.specs.Steps.{and_then}
-use Rattle.channel.specs.Packets.{seals_at, data_in, tag_of, crypted, packet_tag, sealed_packet, seal_check, seal_output, seal_within, unseal_check, unseal_end, unseal_output, unseal_within}
+use Rattle.channel.specs.Packets.{seals_at, data_in, tag_of, crypted, packet_tag, sealed_packet, seal_check, seal_output, unseal_check, unseal_end, unseal_output}
+use Rattle.channel.specs.Within.{seal_within, unseal_within}
 use Rattle.runs.specs.Unaltered.{Blocks}
 use Rattle.sessions.specs.Sessions.{zeros, sealing, unsealing, came_out, passing}
 use Rattle.message.proofs.Again.{passed, went_on}
@@ -23,17 +24,17 @@ unfolding zeros
 zeros_length n = length-replicate n 0
 
 -- only the lengths of the buffers count
-pub sealing-is :
+pub sealing_is :
     {C A : Type 0} (s : Open C A) (p w o : List ℕ) → length w ≡ 256 → length o ≡ 4117 → seal_check s p w o ≡ sealing s p
-sealing-is s p w o hw ho =
+sealing_is s p w o hw ho =
     let l : length o ≡ length (zeros 4117) = ho ∙ sym (zeros_length 4117) in
     let t : seal_within s p o ≡ seal_within s p (zeros 4117) = (cc) in
     sized-passes 256 w (seal_within s p o) (omega arith) ∙ t
 
 module _ {C B : Type 0} (pid : ℕ) (e : List ℕ → List ℕ → List ℕ) where
-  pub unsealing-is :
+  pub unsealing_is :
       (r : Open C B) (m w o : List ℕ) → length w ≡ 256 → length o ≡ 4096 → unseal_check pid e r m w o ≡ unseal_within pid e r m (zeros 4096)
-  unsealing-is r m w o hw ho =
+  unsealing_is r m w o hw ho =
       let l : length o ≡ length (zeros 4096) = ho ∙ sym (zeros_length 4096) in
       let t : unseal_within pid e r m o ≡ unseal_within pid e r m (zeros 4096) = (cc) in
       sized-passes 256 w (unseal_within pid e r m o) (omega arith) ∙ t
@@ -53,10 +54,10 @@ accepted s p o n e =
     let g : Ok (21 + length p) ≡ Ok n = t.1 in
     record { small = ltb-false 4096 (length p) b.0; early = leb-false 16777215 s.epoch.number d.0; size = cc }
 
-pub answers-length :
+pub answers_length :
     {C B : Type 0} (pid : ℕ) (e : List ℕ → List ℕ → List ℕ) (r : Open C B) (m o : List ℕ) (v : ℕ × ℕ) →
     unseal_within pid e r m o ≡ Ok v → v.0 ≡ number_at m 6
-answers-length pid e r m o v h =
+answers_length pid e r m o v h =
     let c = went_on (leb 16777215 r.epoch.number) _ _ (went_on (ltb (length o) 4096) _ _ h).1 in
     let f = (after_check (checked 5 pid m) _ (went_on (seals_at r.role r.epoch.number) _ _ c.1).1).1 in
     let k = went_on (ltb (r.epoch.number + 1) (number_at m 3)) _ _ (went_on (leb (number_at m 3) r.epoch.number) _ _ f).1 in
@@ -68,7 +69,7 @@ answers-length pid e r m o v h =
 module _ {C A B : Type 0} (pid : ℕ) (e : List ℕ → List ℕ → List ℕ) (whole : Blocks e) (s : Open C A) (r : Open C B) (p w o : List ℕ) (n : ℕ)
     (hw : length w ≡ 256) (ho : length o ≡ 4117) (sealed : seal_check s p w o ≡ Ok n) where
   pub sealed_answer : sealing s p ≡ Ok n
-  sealed_answer = sym (sealing-is s p w o hw ho) ∙ sealed
+  sealed_answer = sym (sealing_is s p w o hw ho) ∙ sealed
 
   a : Accepted s p n
   a = accepted s p (zeros 4117) n sealed_answer
@@ -101,14 +102,14 @@ module _ {C A B : Type 0} (pid : ℕ) (e : List ℕ → List ℕ → List ℕ) (
     is_packet = cut ∙ ap (λ x. take x (seal_output pid e s p w o)) (sub-zero n) ∙ message_is
 
     pub unsealed_answer : unseal_check pid e r m w' o' ≡ unsealing pid e s r p
-    unsealed_answer = unsealing-is pid e r m w' o' hw' ho' ∙ ap (λ x. unseal_within pid e r x (zeros 4096)) is_packet
+    unsealed_answer = unsealing_is pid e r m w' o' hw' ho' ∙ ap (λ x. unseal_within pid e r x (zeros 4096)) is_packet
 
     whole_message : m ≡ take (21 + length p) (seal_output pid e s p w o)
     whole_message = cut ∙ ap (λ x. take x (seal_output pid e s p w o)) (sub-zero n ∙ a.size)
 
     module _ (k l : ℕ) (unsealed : unseal_check pid e r m w' o' ≡ Ok (k, l)) where
       is-length : k ≡ number_at m 6
-      is-length = answers-length pid e r m o' (k, l) (sym (sized-passes 256 w' (unseal_within pid e r m o') (omega arith)) ∙ unsealed)
+      is-length = answers_length pid e r m o' (k, l) (sym (sized-passes 256 w' (unseal_within pid e r m o') (omega arith)) ∙ unsealed)
 
       pub fits : k ≤ 4096
       fits =
@@ -131,19 +132,19 @@ module _ {C A B : Type 0} (pid : ℕ) (e : List ℕ → List ℕ → List ℕ) (
 
 -- what the two answers come to
 module _ {C A B : Type 0} (pid : ℕ) (e : List ℕ → List ℕ → List ℕ) (s : Open C A) (r : Open C B) (p : List ℕ) where
-  pub seal-refused :
+  pub seal_refused :
       (f : Fault) → sealing s p ≡ Err f →
       (passing pid e s r p ≡ Err f) × (unseal_end r (and_then (sealing s p) (unsealing pid e s r p)) ≡ r)
-  seal-refused f h = (
+  seal_refused f h = (
     ap (λ q. and_then q (and_then (unsealing pid e s r p) (Ok (came_out pid e s r p)))) h,
     ap (λ q. unseal_end r (and_then q (unsealing pid e s r p))) h,
   )
 
-  pub seal-accepted :
+  pub seal_accepted :
       (n : ℕ) → sealing s p ≡ Ok n →
       (passing pid e s r p ≡ and_then (unsealing pid e s r p) (Ok (came_out pid e s r p)))
       × (unseal_end r (and_then (sealing s p) (unsealing pid e s r p)) ≡ unseal_end r (unsealing pid e s r p))
-  seal-accepted n h = (
+  seal_accepted n h = (
     ap (λ q. and_then q (and_then (unsealing pid e s r p) (Ok (came_out pid e s r p)))) h,
     ap (λ q. unseal_end r (and_then q (unsealing pid e s r p))) h,
   )

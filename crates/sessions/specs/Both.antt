@@ -26,44 +26,44 @@ abbrev pub unopened : {C K L : Type 0} → K → L → Fault → Result (Pair C 
 unopened k l f = Err (record { fob_key = k; mixer_key = l; fault = f })
 
 -- what the fob's finish answered, with the mixer that is open
-abbrev pub thenFinished :
+abbrev pub then_finished :
     {C K L : Type 0} → Open C L → Ticket → Result (Open C K × Ticket) (Refused (Proved C K)) → Result (Pair C K L) (Unopened K L)
-thenFinished x t (Ok o) = Ok (record { fob = o.0; fob_ticket = o.1; mixer = x; mixer_ticket = t })
-thenFinished x t (Err b) = unopened b.end.session.key x.key b.fault
+then_finished x t (Ok o) = Ok (record { fob = o.0; fob_ticket = o.1; mixer = x; mixer_ticket = t })
+then_finished x t (Err b) = unopened b.end.session.key x.key b.fault
 
 module _ {C K L : Type 0} (pid : ℕ) (e : List ℕ → List ℕ → List ℕ) where
   -- what the mixer's confirm answered and wrote
-  abbrev pub thenConfirmed :
+  abbrev pub then_confirmed :
       Proved C K → (message : List ℕ) → Result (Open C L × Ticket) (Refused (Answered C L)) → Result (Pair C K L) (Unopened K L)
-  thenConfirmed p m (Ok o) = thenFinished o.0 o.1 (finished pid e p m (zeros 256))
-  thenConfirmed p m (Err b) = unopened p.session.key b.end.session.key b.fault
+  then_confirmed p m (Ok o) = then_finished o.0 o.1 (finished pid e p m (zeros 256))
+  then_confirmed p m (Err b) = unopened p.session.key b.end.session.key b.fault
 
   -- what the fob's prove answered and wrote
-  abbrev pub thenProved :
+  abbrev pub then_proved :
       Answered C L → (message : List ℕ) → Result (Proved C K) (Refused (Invited C K)) → Result (Pair C K L) (Unopened K L)
-  thenProved a m (Ok p) = thenConfirmed p (confirm_output pid e a m (zeros 256) (zeros 15)) (confirmed pid e a m (zeros 256) (zeros 15))
-  thenProved a m (Err b) = unopened b.end.key a.session.key b.fault
+  then_proved a m (Ok p) = then_confirmed p (confirm_output pid e a m (zeros 256) (zeros 15)) (confirmed pid e a m (zeros 256) (zeros 15))
+  then_proved a m (Err b) = unopened b.end.key a.session.key b.fault
 
 module _ {C K L : Type 0} (pid : ℕ) (e : List ℕ → List ℕ → List ℕ) (u : Lookups K L) where
   -- what the mixer's answer answered and wrote
-  abbrev pub thenAnswered :
+  abbrev pub then_answered :
       Invited C K → (message : List ℕ) → Result (Answered C L) (NotStarted (Mixer C) L) → Result (Pair C K L) (Unopened K L)
-  thenAnswered i m (Ok a) =
-      thenProved pid e a (prove_output pid e u.fob_own u.fob_replies i m (zeros 256) (zeros 15))
+  then_answered i m (Ok a) =
+      then_proved pid e a (prove_output pid e u.fob_own u.fob_replies i m (zeros 256) (zeros 15))
       (proven pid e u.fob_own u.fob_replies i m (zeros 256) (zeros 15))
-  thenAnswered i m (Err b) = unopened i.key b.key b.fault
+  then_answered i m (Err b) = unopened i.key b.key b.fault
 
   -- what the fob's invite answered and wrote
-  abbrev pub thenInvited :
+  abbrev pub then_invited :
       Mixer C → L → Nonce → (message : List ℕ) → Result (Invited C K) (NotStarted (Fob C) K) → Result (Pair C K L) (Unopened K L)
-  thenInvited x l n m (Ok i) =
-      thenAnswered i (answer_output pid e u.mixer_own u.mixer_replies x l n m (zeros 256) (zeros 40))
+  then_invited x l n m (Ok i) =
+      then_answered i (answer_output pid e u.mixer_own u.mixer_replies x l n m (zeros 256) (zeros 40))
       (answered pid e u.mixer_own u.mixer_replies x l n m (zeros 256) (zeros 40))
-  thenInvited x l n m (Err b) = unopened b.key l b.fault
+  then_invited x l n m (Err b) = unopened b.key l b.fault
 
   -- the five calls one after another
   abbrev pub opened_both : Fob C → K → Nonce → Mixer C → L → Nonce → Result (Pair C K L) (Unopened K L)
-  opened_both f k na x l nb = thenInvited x l nb (invite_output pid u.fob_own k na (zeros 40)) (invited f k na (zeros 40))
+  opened_both f k na x l nb = then_invited x l nb (invite_output pid u.fob_own k na (zeros 40)) (invited f k na (zeros 40))
 
 -- two ends that were made for each other: the same identities, lookups that answer each other with one secret, nonces of twelve octets
 pub record Honest {C K L : Type 0} (u : Lookups K L) (f : Fob C) (k : K) (na : Nonce) (x : Mixer C) (l : L) (nb : Nonce) : Type 0 where
@@ -90,10 +90,10 @@ closed_both x = record {
 }
 
 -- payloads in turn once both ends are open, and then both are closed
-abbrev pub thenPassed :
+abbrev pub then_passed :
     {C K L : Type 0} → ℕ → (List ℕ → List ℕ → List ℕ) → List (List ℕ) → Result (Pair C K L) (Unopened K L) → Result (Ended K L) (Unopened K L)
-thenPassed pid e ps (Ok x) = Ok (record { passed = how_many pid e x ps; closed = closed_both (pair_after_all pid e x ps) })
-thenPassed pid e ps (Err b) = Err b
+then_passed pid e ps (Ok x) = Ok (record { passed = how_many pid e x ps; closed = closed_both (pair_after_all pid e x ps) })
+then_passed pid e ps (Err b) = Err b
 
 -- n payloads came through, and both ends closed at the number n with the keys that were given over
 abbrev pub ended_at : {K L : Type 0} → ℕ → K → L → Ended K L

@@ -5,7 +5,8 @@ use Rattle.std.specs.Str.{bytes_eq}
 use Rattle.fault.specs.declared.Fault.{Fault}
 use Rattle.channel.specs.declared.Open.{Open}
 use Rattle.channel.specs.Steps.{and_then}
-use Rattle.channel.specs.Packets.{seals_at, advanced_end, data_in, crypted, sealed_packet, seal_within, seal_end, unseal_within, unseal_end}
+use Rattle.channel.specs.Packets.{seals_at, advanced_end, data_in, crypted, sealed_packet, seal_end, unseal_end}
+use Rattle.channel.specs.Within.{seal_within, unseal_within}
 use Rattle.sessions.specs.declared.unaltered.Pair.{Pair}
 use Rattle.runs.specs.Law.{other}
 

@@ -3,7 +3,7 @@ ghost use Rattle.std.specs.Prelude.{◌≡◌};
 ghost use Rattle.cipher.specs.Cipher.{E};
 ghost use Rattle.channel.specs.Handshake.{answered, proven, confirmed, finished, answer_output, prove_output, confirm_output};
 ghost use Rattle.sessions.specs.Sessions.{zeros};
-ghost use Rattle.sessions.specs.Both.{thenFinished, thenConfirmed, thenProved, thenAnswered, opened_both, Honest, Both};
+ghost use Rattle.sessions.specs.Both.{then_finished, then_confirmed, then_proved, then_answered, opened_both, Honest, Both};
 ghost use Rattle.runs.specs.History.{lookups};
 
 use crate::unaltered::Pair;
@@ -75,7 +75,7 @@ fn answer_to<C: BlockCipher, K: KeyLookup, L: KeyLookup>(
     mixer_nonce: Nonce,
     message: &[u8],
 ) -> Result<Pair<C, K, L>, Unopened<K, L>>
-    ensures value { result ≡ thenAnswered C.BlockCipher.protocol (E C.BlockCipher.schedule C.BlockCipher.worked) (lookups K.KeyLookup.own K.KeyLookup.replies L.KeyLookup.own L.KeyLookup.replies) invited (answer_output C.BlockCipher.protocol (E C.BlockCipher.schedule C.BlockCipher.worked) L.KeyLookup.own L.KeyLookup.replies mixer mixer_key mixer_nonce message.now (zeros 256) (zeros 40)) (answered C.BlockCipher.protocol (E C.BlockCipher.schedule C.BlockCipher.worked) L.KeyLookup.own L.KeyLookup.replies mixer mixer_key mixer_nonce message.now (zeros 256) (zeros 40)) }
+    ensures value { result ≡ then_answered C.BlockCipher.protocol (E C.BlockCipher.schedule C.BlockCipher.worked) (lookups K.KeyLookup.own K.KeyLookup.replies L.KeyLookup.own L.KeyLookup.replies) invited (answer_output C.BlockCipher.protocol (E C.BlockCipher.schedule C.BlockCipher.worked) L.KeyLookup.own L.KeyLookup.replies mixer mixer_key mixer_nonce message.now (zeros 256) (zeros 40)) (answered C.BlockCipher.protocol (E C.BlockCipher.schedule C.BlockCipher.worked) L.KeyLookup.own L.KeyLookup.replies mixer mixer_key mixer_nonce message.now (zeros 256) (zeros 40)) }
 {
     let mut workspace = buffer::<WORKSPACE>();
     let mut output = buffer::<ACT>();
@@ -105,7 +105,7 @@ fn prove_to<C: BlockCipher, K: KeyLookup, L: KeyLookup>(
     mixer: Answered<C, L>,
     message: &[u8],
 ) -> Result<Pair<C, K, L>, Unopened<K, L>>
-    ensures value { result ≡ thenProved C.BlockCipher.protocol (E C.BlockCipher.schedule C.BlockCipher.worked) mixer (prove_output C.BlockCipher.protocol (E C.BlockCipher.schedule C.BlockCipher.worked) K.KeyLookup.own K.KeyLookup.replies invited message.now (zeros 256) (zeros 15)) (proven C.BlockCipher.protocol (E C.BlockCipher.schedule C.BlockCipher.worked) K.KeyLookup.own K.KeyLookup.replies invited message.now (zeros 256) (zeros 15)) }
+    ensures value { result ≡ then_proved C.BlockCipher.protocol (E C.BlockCipher.schedule C.BlockCipher.worked) mixer (prove_output C.BlockCipher.protocol (E C.BlockCipher.schedule C.BlockCipher.worked) K.KeyLookup.own K.KeyLookup.replies invited message.now (zeros 256) (zeros 15)) (proven C.BlockCipher.protocol (E C.BlockCipher.schedule C.BlockCipher.worked) K.KeyLookup.own K.KeyLookup.replies invited message.now (zeros 256) (zeros 15)) }
 {
     let mut workspace = buffer::<WORKSPACE>();
     let mut output = buffer::<VERIFY>();
@@ -125,7 +125,7 @@ fn confirm_to<C: BlockCipher, K: KeyLookup, L: KeyLookup>(
     mixer: Answered<C, L>,
     message: &[u8],
 ) -> Result<Pair<C, K, L>, Unopened<K, L>>
-    ensures value { result ≡ thenConfirmed C.BlockCipher.protocol (E C.BlockCipher.schedule C.BlockCipher.worked) proved (confirm_output C.BlockCipher.protocol (E C.BlockCipher.schedule C.BlockCipher.worked) mixer message.now (zeros 256) (zeros 15)) (confirmed C.BlockCipher.protocol (E C.BlockCipher.schedule C.BlockCipher.worked) mixer message.now (zeros 256) (zeros 15)) }
+    ensures value { result ≡ then_confirmed C.BlockCipher.protocol (E C.BlockCipher.schedule C.BlockCipher.worked) proved (confirm_output C.BlockCipher.protocol (E C.BlockCipher.schedule C.BlockCipher.worked) mixer message.now (zeros 256) (zeros 15)) (confirmed C.BlockCipher.protocol (E C.BlockCipher.schedule C.BlockCipher.worked) mixer message.now (zeros 256) (zeros 15)) }
 {
     let mut workspace = buffer::<WORKSPACE>();
     let mut output = buffer::<VERIFY>();
@@ -146,7 +146,7 @@ fn finish_with<C: BlockCipher, K: KeyLookup, L: KeyLookup>(
     mixer_ticket: Ticket,
     message: &[u8],
 ) -> Result<Pair<C, K, L>, Unopened<K, L>>
-    ensures value { result ≡ thenFinished mixer mixer_ticket (finished C.BlockCipher.protocol (E C.BlockCipher.schedule C.BlockCipher.worked) proved message.now (zeros 256)) }
+    ensures value { result ≡ then_finished mixer mixer_ticket (finished C.BlockCipher.protocol (E C.BlockCipher.schedule C.BlockCipher.worked) proved message.now (zeros 256)) }
 {
     let mut workspace = buffer::<WORKSPACE>();
     match proved.finish(message, &mut workspace) {

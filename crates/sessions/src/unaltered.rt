@@ -3,7 +3,7 @@ ghost use Rattle.std.specs.Prelude.{◌≡◌, ℕ, ◌+◌, ◌-◌, ◌≤◌,
 ghost use Rattle.std.specs.Str.{bytes_eq};
 ghost use Rattle.cipher.specs.Cipher.{E};
 ghost use Rattle.runs.specs.Unaltered.{Small, Level};
-ghost use Rattle.sessions.specs.Both.{opened_both, Honest, closed_both, thenPassed, ended_at};
+ghost use Rattle.sessions.specs.Both.{opened_both, Honest, closed_both, then_passed, ended_at};
 ghost use Rattle.runs.specs.History.{lookups};
 ghost use Rattle.sessions.specs.Sessions.{passing, sealer_after, unsealer_after, Ready, Through, through, comes_through, pair_after, how_many, pair_after_all, held};
 
@@ -53,7 +53,7 @@ pub fn run_unaltered<C: BlockCipher, K: KeyLookup, L: KeyLookup>(
     mixer_nonce: Nonce,
     payloads: &[&[u8]],
 ) -> Result<Ended<K, L>, Unopened<K, L>>
-    ensures value { result ≡ thenPassed C.BlockCipher.protocol (E C.BlockCipher.schedule C.BlockCipher.worked) (held payloads.now) (opened_both C.BlockCipher.protocol (E C.BlockCipher.schedule C.BlockCipher.worked) (lookups K.KeyLookup.own K.KeyLookup.replies L.KeyLookup.own L.KeyLookup.replies) fob fob_key fob_nonce mixer mixer_key mixer_nonce) }
+    ensures value { result ≡ then_passed C.BlockCipher.protocol (E C.BlockCipher.schedule C.BlockCipher.worked) (held payloads.now) (opened_both C.BlockCipher.protocol (E C.BlockCipher.schedule C.BlockCipher.worked) (lookups K.KeyLookup.own K.KeyLookup.replies L.KeyLookup.own L.KeyLookup.replies) fob fob_key fob_nonce mixer mixer_key mixer_nonce) }
     ensures honest { Honest (lookups K.KeyLookup.own K.KeyLookup.replies L.KeyLookup.own L.KeyLookup.replies) fob fob_key fob_nonce mixer mixer_key mixer_nonce → Small (held payloads.now) → length payloads.now ≤ 16777215 → result ≡ Ok (ended_at (length payloads.now) fob_key mixer_key) }
 {
     match open_both(fob, fob_key, fob_nonce, mixer, mixer_key, mixer_nonce) {

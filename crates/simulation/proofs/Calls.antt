@@ -96,11 +96,11 @@ pub verify_long_4 : (p : ℕ) (m : List ℕ) → checked 4 p m ≡ Ok tt → 15 
 verify_long_4 p m e = long 15 m _ (was_checked 4 p m e).lengths
 
 module _ {C K : Type 0} (pid : ℕ) (e : List ℕ → List ℕ → List ℕ) (own : K → List ℕ) (replies : K → List ℕ → Reply) where
-  pub answer-does :
+  pub answer_does :
       (s : MixerSide C K) (x : Mixer C) (k : K) (c : Nonce) (q n m w o : List ℕ) (y : Answered C K) (a : RecordedEvent) (z : Outcome) → s ≡ FreshMixer x k →
       Ok y ≡ answered pid e own replies x k c m w o → q ≡ own k → c.octets ≡ n → Read a m →
       Does (record { next = AnsweredMixer y; events = Two (Offers q n) a; outcome = z }) (answer_at pid e own replies s n m w o)
-  answer-does s x k c q n m w o y a z i h eq en f =
+  answer_does s x k c q n m w o y a z i h eq en f =
       let r = begun x k c (to_answered pid e own replies x k c m) (answer_check pid e own replies x k c m w o) h in
       let p = past (ltb (length w) 256) _ _ r.1 in
       let p' = past (ltb (length o) 40) _ _ p.1 in
@@ -118,23 +118,23 @@ module _ {C K : Type 0} (pid : ℕ) (e : List ℕ → List ℕ → List ℕ) (ow
             ∙ ap (λ v. offers (own y.session.key) y.session.nonces.mixer ∷ event_in v ∷ []) g ∙ ap (λ v. v.events) (sym j);
       }
 
-  pub answer-refused :
+  pub answer_refused :
       (s : MixerSide C K) (x : Mixer C) (k : K) (c : Nonce) (n m w o : List ℕ) (y : NotStarted (Mixer C) K) (r : Move (MixerSide C K)) → s ≡ FreshMixer x k →
       Err y ≡ answered pid e own replies x k c m w o → c.octets ≡ n → r.next ≡ FreshMixer y.end y.key → r.events ≡ Nothing →
       Does r (answer_at pid e own replies s n m w o)
-  answer-refused s x k c n m w o y r i h en a b =
+  answer_refused s x k c n m w o y r i h en a b =
       let u : record { octets = n } ≡ c = ap (λ v. record { octets = v }) (sym en) in
       let j : answer_at pid e own replies s n m w o ≡ after_answer pid e own replies m (Err y) =
       ap (λ v. answer_at pid e own replies v n m w o) i ∙ ap (λ v. after_answer pid e own replies m (answered pid e own replies x k v m w o)) u
       ∙ ap (after_answer pid e own replies m) (sym h) in
       record { next = a ∙ ap (λ v. v.next) (sym j); events = ap events_in b ∙ ap (λ v. v.events) (sym j) }
 
-  pub prove-does :
+  pub prove_does :
       Blocks e → (s : FobSide C K) (i : Invited C K) (m w o out t : List ℕ) (y : Proved C K) (a : RecordedEvent) (z : Outcome) → s ≡ InvitedFob i →
       Ok y ≡ proven pid e own replies i m w o → out ≡ take 15 (prove_output pid e own replies i m w o) → (15 ≤ length out → t ≡ tag_in out) →
       Read a m →
       Does (record { next = ProvedFob y; events = Three (Sends t) Proves a; outcome = z }) (prove_at pid e own replies s m w o)
-  prove-does blocks s i m w o out t y a z is h eo ft f =
+  prove_does blocks s i m w o out t y a z is h eo ft f =
       let r = moved i (to_proved pid e own replies i m) (prove_check pid e own replies i m w o) h in
       let p = past (ltb (length w) 256) _ _ r.1 in
       let p' = past (ltb (length o) 15) _ _ p.1 in
@@ -160,12 +160,12 @@ module _ {C K : Type 0} (pid : ℕ) (e : List ℕ → List ℕ → List ℕ) (ow
       }
 
 module _ {C K : Type 0} (pid : ℕ) (e : List ℕ → List ℕ → List ℕ) where
-  pub confirm-does :
+  pub confirm_does :
       Blocks e → (s : MixerSide C K) (x : Answered C K) (m w o out t : List ℕ) (y : Open C K) (k : Ticket) (a : RecordedEvent) (z : Outcome) → s ≡ AnsweredMixer x →
       Ok (y, k) ≡ confirmed pid e x m w o → out ≡ take 15 (confirm_output pid e x m w o) → (15 ≤ length out → t ≡ tag_in out) →
       Accepted a m →
       Does (record { next = OpenMixer y k; events = Three (Sends t) Opens a; outcome = z }) (confirm_at pid e s m w o)
-  confirm-does blocks s x m w o out t y k a z is h eo ft f =
+  confirm_does blocks s x m w o out t y k a z is h eo ft f =
       let ck : Result (List ℕ) Fault = confirm_check pid e x m w o in
       let r = moved x (λ u. (open_mixer x, ticket)) ck h in
       let p = past (ltb (length w) 256) _ _ r.1 in
@@ -186,11 +186,11 @@ module _ {C K : Type 0} (pid : ℕ) (e : List ℕ → List ℕ → List ℕ) whe
             ∙ ap (λ u. u.events) (sym j);
       }
 
-  pub finish-does :
+  pub finish_does :
       (s : FobSide C K) (p : Proved C K) (m w : List ℕ) (y : Open C K) (k : Ticket) (a : RecordedEvent) (z : Outcome) → s ≡ ProvedFob p →
       Ok (y, k) ≡ finished pid e p m w → Accepted a m →
       Does (record { next = OpenFob y k; events = Two Opens a; outcome = z }) (finish_at pid e s m w)
-  finish-does s p m w y k a z is h f =
+  finish_does s p m w y k a z is h f =
       let ck : Result (Unit {0}) Fault = finish_check pid e p m w in
       let r = moved p (λ u. (open_fob p, ticket)) ck h in
       let q = past (ltb (length w) 256) _ _ r.1 in

@@ -40,24 +40,24 @@ module _ {C K L : Type 0} (pid : ℕ) (e : List ℕ → List ℕ → List ℕ) (
   with_room : (r : Run C K L) (v : Vec Entry Global) → vec_items v ≡ vec_items r.log → (h : History C K L) → Recorded r h → Recorded (record { fob = r.fob; mixer = r.mixer; log = v }) h
   with_room r v a h m = ap (λ (x : List Entry). record { fob = r.fob; mixer = r.mixer; log = log_in x; worked = h.worked }) a ∙ m
 
-  pub room-makes :
+  pub room_makes :
       (r s : Run C K L) (v : Vec Entry Global) (calls : List Call) → vec_items v ≡ vec_items r.log →
       Makes pid e u (record { fob = r.fob; mixer = r.mixer; log = v }) calls s → Makes pid e u r calls s
-  room-makes r s v calls a m h z = m h (with_room r v a h z)
+  room_makes r s v calls a m h z = m h (with_room r v a h z)
 
   pub room_only : (r : Run C K L) (v : Vec Entry Global) → vec_items v ≡ vec_items r.log → Makes pid e u r [] (record { fob = r.fob; mixer = r.mixer; log = v })
   room_only r v a h z = with_room r v a h z
 
   -- more calls after a history
-  history-more :
+  history_more :
       (f : Fob C) (k : K) (x : Mixer C) (l : L) (before calls : List Call) →
       history pid e u f k x l (before ++ calls) ≡ fold (step pid e u) (history pid e u f k x l before) calls
   unfolding history
-  history-more f k x l before calls = folded_append (step pid e u) (start f k x l) before calls
+  history_more f k x l before calls = folded_append (step pid e u) (start f k x l) before calls
 
   pub makes_follows : (r s : Run C K L) (calls : List Call) → Makes pid e u r calls s → Follows pid e u r calls s
   makes_follows r s calls m f k x l before h = record {
-    recorded = subst (λ (v : History C K L). Recorded s v) (sym (history-more f k x l before calls)) (m (history pid e u f k x l before) h.recorded);
+    recorded = subst (λ (v : History C K L). Recorded s v) (sym (history_more f k x l before calls)) (m (history pid e u f k x l before) h.recorded);
     named = h.named;
     fob_25 = h.fob_25;
     mixer_25 = h.mixer_25;

@@ -41,12 +41,12 @@ same_size : (a b c d : ℕ) → ◌≡◌ {A = Result (ℕ × ℕ) Fault} (Ok (a
 same_size a b c d h = let q : ◌≡◌ {A = ℕ × ℕ} (a, b) (c, d) = cc in ap (λ v. v.0) (sym q)
 
 module _ {C K : Type 0} (pid : ℕ) (e : List ℕ → List ℕ → List ℕ) where
-  pub seal-does :
+  pub seal_does :
       Blocks e → (x y : Open C K) (p w o out t : List ℕ) (size at number counter : ℕ) → Ok size ≡ seal_check x p w o → y ≡ seal_end x p (Ok size) →
       out ≡ take size (seal_output pid e x p w o) → at ≡ 9 + length p → (at + 12 ≤ length out → t ≡ take 12 (drop at out)) →
       number ≡ y.epoch.number → counter ≡ x.epoch.keys.counter →
       (y ≡ (sealed_by pid e x p (seal_check x p w o)).next) × (sends t ∷ seals number counter p ∷ [] ≡ (sealed_by pid e x p (seal_check x p w o)).events)
-  seal-does blocks x y p w o out t size at number counter h ey eo ea ft en ec =
+  seal_does blocks x y p w o out t size at number counter h ey eo ea ft en ec =
       let s : Sealed x p size = sealed_as x p w o size (sym h) in
       let d : List ℕ = crypted e x.epoch p in
       let tg : List ℕ = packet_tag e x.epoch (x.epoch.number + 1) d in
@@ -83,12 +83,12 @@ module _ {C K : Type 0} (pid : ℕ) (e : List ℕ → List ℕ → List ℕ) whe
       let s = unsealed_as_lem x m w o size number h in
       omega (arith, s.0, (packet_long pid m s.1).0)
 
-  pub unseal-does :
+  pub unseal_does :
       (x y : Open C K) (m w o out t : List ℕ) (size number : ℕ) → Ok (size, number) ≡ unseal_check pid e x m w o → y ≡ unseal_end x (Ok (size, number)) →
       out ≡ take size (unseal_output pid e x m w o) → (9 + size + 12 ≤ length m → t ≡ take 12 (drop (9 + size) m)) →
       (y ≡ (unsealed_by pid e x m w o (unseal_check pid e x m w o)).next)
       × (unseals number out ∷ accepts t ∷ [] ≡ (unsealed_by pid e x m w o (unseal_check pid e x m w o)).events)
-  unseal-does x y m w o out t size number h ey eo ft =
+  unseal_does x y m w o out t size number h ey eo ft =
       let s = unsealed_as_lem x m w o size number h in
       let l = packet_long pid m s.1 in
       let q : t ≡ tag_of m = ft (omega (arith, l.1, s.0)) ∙ ap (λ v. take 12 (drop (9 + v) m)) s.0 in

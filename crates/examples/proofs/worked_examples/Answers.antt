@@ -24,12 +24,12 @@ examples C K = record {
   counter_by_two = by_two;
   seal_full = λ x p w o r h. sealed x p w o r (omega arith) ∙ ap (λ n. Ok (21 + n)) h;
   seal_over = λ x p w o r h. too_long x p w o r (omega arith);
-  seal-last = λ x p w o r h e.
+  seal_last = λ x p w o r h e.
       let a : seal_check x p w o ≡ Ok (21 + length p) = sealed x p w o r h in
       let n : (seal_end x p (seal_check x p w o)).epoch.number ≡ 16777215 =
       ap (λ q. (seal_end x p q).epoch.number) a ∙ ap (λ k. k + 1) e in
       (n, at_last x p w o r (seal_end x p (seal_check x p w o)) h n, refl);
-  short-act = short;
+  short_act = short;
 }
 
 pub returns : goal.returns

@@ -3,7 +3,7 @@ use Rattle.std.proofs.Common.{◌≡◌, ◌+◌, ◌-◌, ap, ◌∙◌, arith,
 use Rattle.cipher.specs.Cipher.{E}
 use Rattle.channel.specs.declared.Epoch.{Epoch}
 use Rattle.channel.specs.declared.Open.{Open}
-use Rattle.channel.specs.Packets.{advanced_to}
+use Rattle.channel.specs.Within.{advanced_to}
 use Rattle.channel.proofs.Accepted.{deciphered, counted}
 use Rattle.channel.proofs.Open.unseal_within.Goals as goal
 

@@ -6,8 +6,8 @@ use Rattle.sessions.specs.declared.unaltered.Ended.{Ended}
 use Rattle.sessions.specs.declared.handshake.Unopened.{Unopened}
 use Rattle.runs.specs.Unaltered.{Blocks}
 use Rattle.sessions.specs.Sessions.{held}
-use Rattle.sessions.specs.Both.{thenPassed}
-use Rattle.sessions.proofs.Joint.{session-ends}
+use Rattle.sessions.specs.Both.{then_passed}
+use Rattle.sessions.proofs.Joint.{session_ends}
 use Rattle.sessions.proofs.unaltered.run_unaltered.Goals as goal
 
 pub returns-in-Ok : goal.returns-in-Ok
@@ -18,10 +18,10 @@ returns-in-Ok g c =
     let ps : List (List ℕ) = held c.args.payloads.now in
     let r : Result (Ended g.row.K.Denot g.row.L.Denot) (Unopened g.row.K.Denot g.row.L.Denot) =
     Ok (record { passed = c.pass_all-passed.result; closed = c.close-closed.result }) in
-    let v : r ≡ thenPassed pid e ps c.open_both.result = search rules in
+    let v : r ≡ then_passed pid e ps c.open_both.result = search rules in
     record {
-      value = v ∙ ap (thenPassed pid e ps) c.open_both.ensures.value;
+      value = v ∙ ap (then_passed pid e ps) c.open_both.ensures.value;
       honest = λ h s most.
-          session-ends pid e whole c.args.fob_key c.args.mixer_key c.open_both.result ps (length c.args.payloads.now) r
+          session_ends pid e whole c.args.fob_key c.args.mixer_key c.open_both.result ps (length c.args.payloads.now) r
           (c.open_both.ensures.honest h) s (length-map c.args.payloads.now (λ (p : Bor (List ℕ)). p.now)) most v;
     }

@@ -3,7 +3,7 @@ use Rattle.std.proofs.Common.{◌≡◌, ℕ, List, [], length, replicate, sym, 
 use Rattle.cipher.specs.Cipher.{E}
 use Rattle.runs.specs.Unaltered.{Blocks}
 use Rattle.std.proofs.lemmas.List.{get_or-replicate, length-replicate}
-use Rattle.sessions.proofs.Pairs.{going_start, going_next, going-stops, going_done, honest-all, small_replicate}
+use Rattle.sessions.proofs.Pairs.{going_start, going_next, going_stops, going_done, honest_all, small_replicate}
 use Rattle.sessions.proofs.unaltered.Pair.pass.Goals as goal
 
 pub loop-i-init : goal.loop-i-init
@@ -29,12 +29,12 @@ returns-then-not-pass_next g c =
     let long : length ps ≡ c.args.count = length-replicate c.args.count c.args.payload.now in
     let i : ℕ = c.loop-i.i in
     let p : List ℕ = c.args.payload.now in
-    let t = going-stops pid e c.args.self.now c.loop-i.self ps i c.loop-i.invariant c.pass_next.new.self p (omega arith)
+    let t = going_stops pid e c.args.self.now c.loop-i.self ps i c.loop-i.invariant c.pass_next.new.self p (omega arith)
     (get_or-replicate c.args.count i p [] c.loop-i-test.true) c.pass_next.ensures.end (sym c.pass_next.ensures.value ∙ c.if-not-pass_next.true) in
     record {
       value = t.0;
       end = t.1;
-      honest = λ n h s. honest-all pid e whole c.args.self.now c.pass_next.new.self ps c.args.count i long t n h (small_replicate c.args.count c.args.payload.now s);
+      honest = λ n h s. honest_all pid e whole c.args.self.now c.pass_next.new.self ps c.args.count i long t n h (small_replicate c.args.count c.args.payload.now s);
     }
 
 pub returns : goal.returns
@@ -48,5 +48,5 @@ returns g c =
     record {
       value = t.0;
       end = t.1;
-      honest = λ n h s. honest-all pid e whole c.args.self.now c.loop-i.self ps c.args.count c.args.count long t n h (small_replicate c.args.count c.args.payload.now s);
+      honest = λ n h s. honest_all pid e whole c.args.self.now c.loop-i.self ps c.args.count c.args.count long t n h (small_replicate c.args.count c.args.payload.now s);
     }

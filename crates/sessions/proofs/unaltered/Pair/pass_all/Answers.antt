@@ -4,7 +4,7 @@ use Rattle.cipher.specs.Cipher.{E}
 use Rattle.sessions.specs.Sessions.{held}
 use Rattle.runs.specs.Unaltered.{Blocks}
 use Rattle.std.proofs.lemmas.List.{get_or-map, length-map}
-use Rattle.sessions.proofs.Pairs.{going_start, going_next, going-stops, going_done, honest-all, nothing}
+use Rattle.sessions.proofs.Pairs.{going_start, going_next, going_stops, going_done, honest_all, nothing}
 use Rattle.sessions.proofs.unaltered.Pair.pass_all.Goals as goal
 
 pub loop-i-init : goal.loop-i-init
@@ -30,12 +30,12 @@ returns-then-not-pass_next g c =
     let long : length ps ≡ length c.args.payloads.now = length-map c.args.payloads.now (λ (v : Bor (List ℕ)). v.now) in
     let i : ℕ = c.loop-i.i in
     let p : List ℕ = (get_or c.args.payloads.now i nothing).now in
-    let t = going-stops pid e c.args.self.now c.loop-i.self ps i c.loop-i.invariant c.pass_next.new.self p (omega arith)
+    let t = going_stops pid e c.args.self.now c.loop-i.self ps i c.loop-i.invariant c.pass_next.new.self p (omega arith)
     (get_or-map (λ (v : Bor (List ℕ)). v.now) c.args.payloads.now i nothing [] c.loop-i-test.true) c.pass_next.ensures.end (sym c.pass_next.ensures.value ∙ c.if-not-pass_next.true) in
     record {
       value = t.0;
       end = t.1;
-      honest = λ n h s. honest-all pid e whole c.args.self.now c.pass_next.new.self ps (length c.args.payloads.now) i long t n h (s);
+      honest = λ n h s. honest_all pid e whole c.args.self.now c.pass_next.new.self ps (length c.args.payloads.now) i long t n h (s);
     }
 
 pub returns : goal.returns
@@ -49,5 +49,5 @@ returns g c =
     record {
       value = t.0;
       end = t.1;
-      honest = λ n h s. honest-all pid e whole c.args.self.now c.loop-i.self ps (length c.args.payloads.now) (length c.args.payloads.now) long t n h (s);
+      honest = λ n h s. honest_all pid e whole c.args.self.now c.loop-i.self ps (length c.args.payloads.now) (length c.args.payloads.now) long t n h (s);
     }
