@@ -10,7 +10,6 @@ use speck::Speck;
 use std::fs;
 use text::split_word;
 
-mod replay;
 mod sessions;
 
 /// How many figures were compared, and how many differ.
@@ -29,8 +28,17 @@ fn run(rt: &HostRuntime) -> anyhow::Result<()> {
         compared: 0,
         wrong: 0,
     };
-    compare_figures(rt, &mut tally)?;
-    compare_sessions(rt, &mut tally)?;
+    let figures = fs::read_to_string(rt, "figures.txt")?;
+    for line in figures.lines() {
+        let (sort, rest) = split_word(line.as_bytes());
+        figure(rt, sort, rest, &mut tally)?;
+    }
+    let lines = fs::read_to_string(rt, "sessions.txt")?;
+    let mut session = Session::new(rt);
+    for line in lines.lines() {
+        let (name, rest) = split_word(line.as_bytes());
+        session.line(rt, name, rest, &mut tally)?;
+    }
     let Tally { compared, wrong } = tally;
     println!(rt; "{compared} compared, {wrong} differ")?;
     if wrong != 0 {
@@ -39,76 +47,32 @@ fn run(rt: &HostRuntime) -> anyhow::Result<()> {
     Ok(())
 }
 
-/// Compares the published figures.
-fn compare_figures(rt: &HostRuntime, tally: &mut Tally) -> anyhow::Result<()> {
-    let lines = fs::read_to_string(rt, "figures.txt")?;
-    for line in lines.lines() {
-        compare_figure(rt, line.as_bytes(), tally)?;
+/// Compares one published figure.
+fn figure(rt: &HostRuntime, sort: &[u8], words: &[u8], tally: &mut Tally) -> anyhow::Result<()> {
+    if sort == b"aes".as_slice() {
+        print!(rt; "AES-128 block")?;
+        report(rt, block_agrees::<Aes>(rt, words)?, tally)?;
+    } else if sort == b"aes-schedule".as_slice() {
+        print!(rt; "AES-128 last round key")?;
+        report(rt, last_round_key_agrees(rt, words)?, tally)?;
+    } else if sort == b"speck".as_slice() {
+        print!(rt; "Speck128/128 block")?;
+        report(rt, block_agrees::<Speck>(rt, words)?, tally)?;
+    } else if sort == b"aes-xcbc".as_slice() {
+        print!(rt; "AES-XCBC result and tag")?;
+        report(rt, result_agrees(rt, words)?, tally)?;
     }
     Ok(())
 }
 
-/// Compares the whole sessions.
-fn compare_sessions(rt: &HostRuntime, tally: &mut Tally) -> anyhow::Result<()> {
-    let lines = fs::read_to_string(rt, "sessions.txt")?;
-    let mut session = Session::none(rt);
-    for line in lines.lines() {
-        session.line(rt, line.as_bytes(), tally)?;
-    }
-    session.compare(rt, tally)
-}
-
-/// Compares one published figure.
-fn compare_figure(rt: &HostRuntime, line: &[u8], tally: &mut Tally) -> anyhow::Result<()> {
-    let (sort, words) = split_word(line);
-    if sort == b"aes" {
-        report(rt, "AES-128 block", block_agrees::<Aes>(rt, words)?, tally)
-    } else if sort == b"aes-schedule" {
-        report(
-            rt,
-            "AES-128 last round key",
-            last_round_key_agrees(rt, words)?,
-            tally,
-        )
-    } else if sort == b"speck" {
-        report(
-            rt,
-            "Speck128/128 block",
-            block_agrees::<Speck>(rt, words)?,
-            tally,
-        )
-    } else if sort == b"aes-xcbc" {
-        report(
-            rt,
-            "AES-XCBC result and tag",
-            result_agrees(rt, words)?,
-            tally,
-        )
-    } else if is_remark(sort) {
-        Ok(())
-    } else {
-        Err(anyhow!("a figure of another sort"))
-    }
-}
-
-/// Whether a line that begins with this word gives nothing.
-pub(crate) fn is_remark(word: &[u8]) -> bool {
-    word.is_empty() || word[0] == b'#'
-}
-
-/// Writes the line of what was compared.
-pub(crate) fn report(
-    rt: &HostRuntime,
-    what: &str,
-    agrees: bool,
-    tally: &mut Tally,
-) -> anyhow::Result<()> {
+/// Ends the line of a figure.
+pub(crate) fn report(rt: &HostRuntime, agrees: bool, tally: &mut Tally) -> anyhow::Result<()> {
     tally.compared = tally.compared.saturating_add(1);
     if agrees {
-        println!(rt; "{what}: agrees")?;
+        println!(rt; ": agrees")?;
     } else {
         tally.wrong = tally.wrong.saturating_add(1);
-        println!(rt; "{what}: DIFFERS")?;
+        println!(rt; ": DIFFERS")?;
     }
     Ok(())
 }

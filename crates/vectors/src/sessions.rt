@@ -1,66 +1,35 @@
-//! Whole sessions, read line by line: the keys and the secrets are compared, and both ends are taken through the messages.
-use crate::replay::replay;
+//! Whole sessions, line by line: the keys, the confirmations and the packets.
 use crate::{Tally, fixed, octets, report};
 use aes::Aes;
 use anyhow::anyhow;
 use cipher::{BlockCipher, WORKSPACE};
-use keyed::{Identities, Nonces, SessionKeys};
+use keyed::{Confirmation, Identities, Labels, Nonces, SessionKeys};
 use lookup::bench::BenchKey;
 use lookup::chip::ChipRecord;
 use lookup::{KeyLookup, Reply};
 use speck::Speck;
 use text::split_word;
 
-/// The cipher of a session.
-#[derive(Clone, Copy)]
-enum Suite {
-    None,
-    Aes,
-    Speck,
-}
-
-impl Suite {
-    fn named(name: &[u8]) -> anyhow::Result<Suite> {
-        if name == b"aes" {
-            Ok(Suite::Aes)
-        } else if name == b"speck" {
-            Ok(Suite::Speck)
-        } else {
-            Err(anyhow!("the cipher of a session is another"))
-        }
-    }
-}
-
-/// A session as the file has it.
+/// What the lines of a session said so far.
 #[derive(Drop)]
 pub(crate) struct Session {
     number: u32,
-    suite: Suite,
-    pub(crate) identities: Identities,
-    pub(crate) nonces: Nonces,
+    speck: bool,
+    identities: Identities,
+    nonces: Nonces,
+    labels: Labels,
     secret: [u8; 24],
-    pub(crate) keys: SessionKeys,
-    pub(crate) fob_key: OwnKey,
-    pub(crate) mixer_key: OwnKey,
-    pub(crate) act_req: Vec<u8>,
-    pub(crate) act_res: Vec<u8>,
-    pub(crate) vfy_req: Vec<u8>,
-    pub(crate) vfy_res: Vec<u8>,
-    pub(crate) packets: Vec<Packet>,
-}
-
-/// A packet as the file has it, with the counter after it.
-#[derive(Drop)]
-pub(crate) struct Packet {
-    pub(crate) number: u32,
-    pub(crate) payload: Vec<u8>,
-    pub(crate) message: Vec<u8>,
-    pub(crate) counter: u128,
+    keys: SessionKeys,
+    payload: Vec<u8>,
+    packets: u32,
+    packet_agrees: bool,
+    fob_key: OwnKey,
+    mixer_key: OwnKey,
 }
 
 /// What an own key is made of: a private number, or the octets of a record.
 #[derive(Drop)]
-pub(crate) enum OwnKey {
+enum OwnKey {
     None,
     Bench(u32),
     Chip(Vec<u8>),
@@ -89,21 +58,17 @@ fn looks_up<K: KeyLookup>(key: &K, own: &[u8; 25], peer: &[u8; 25], secret: &[u8
 
 /// The own key that a line gives.
 fn own_key(rt: &HostRuntime, sort: &[u8], word: &[u8]) -> anyhow::Result<OwnKey> {
-    if sort == b"chip" {
+    if sort == b"chip".as_slice() {
         return Ok(OwnKey::Chip(octets(rt, word)?));
     }
-    Ok(OwnKey::Bench(decimal(word)?))
+    match decimal(word) {
+        Some(d) => Ok(OwnKey::Bench(d)),
+        None => Err(anyhow!("a private number is not a number")),
+    }
 }
 
 /// The value of a decimal number of 32 bits.
-fn decimal(word: &[u8]) -> anyhow::Result<u32> {
-    match value_of(word) {
-        Some(value) => Ok(value),
-        None => Err(anyhow!("a number of a session is not a number")),
-    }
-}
-
-fn value_of(word: &[u8]) -> Option<u32> {
+fn decimal(word: &[u8]) -> Option<u32> {
     let mut value = 0u32;
     for b in word {
         if *b < b'0' || *b > b'9' {
@@ -115,15 +80,10 @@ fn value_of(word: &[u8]) -> Option<u32> {
 }
 
 impl Session {
-    /// No session yet.
-    pub(crate) fn none(rt: &HostRuntime) -> Session {
-        Session::new(rt, 0, Suite::None)
-    }
-
-    fn new(rt: &HostRuntime, number: u32, suite: Suite) -> Session {
+    pub(crate) fn new(rt: &HostRuntime) -> Session {
         Session {
-            number,
-            suite,
+            number: 0,
+            speck: false,
             identities: Identities {
                 fob: [0; 10],
                 mixer: [0; 10],
@@ -132,6 +92,10 @@ impl Session {
                 fob: [0; 12],
                 mixer: [0; 12],
             },
+            labels: Labels {
+                fob: [0; 25],
+                mixer: [0; 25],
+            },
             secret: [0; 24],
             keys: SessionKeys {
                 master: [0; 16],
@@ -139,215 +103,175 @@ impl Session {
                 integrity: [0; 16],
                 counter: 0,
             },
+            payload: Vec::new(rt.alloc()),
+            packets: 0,
+            packet_agrees: false,
             fob_key: OwnKey::None,
             mixer_key: OwnKey::None,
-            act_req: Vec::new(rt.alloc()),
-            act_res: Vec::new(rt.alloc()),
-            vfy_req: Vec::new(rt.alloc()),
-            vfy_res: Vec::new(rt.alloc()),
-            packets: Vec::new(rt.alloc()),
         }
     }
 
-    /// Takes in a line. One that begins a session first ends the session before it.
+    /// Takes in a line that begins with `name`, and compares what it gives.
     pub(crate) fn line(
         &mut self,
         rt: &HostRuntime,
-        line: &[u8],
+        name: &[u8],
+        rest: &[u8],
         tally: &mut Tally,
     ) -> anyhow::Result<()> {
-        let (name, rest) = split_word(line);
-        if name == b"cipher" {
-            self.compare(rt, tally)?;
-            let (suite, _) = split_word(rest);
-            *self = Session::new(rt, self.number.saturating_add(1), Suite::named(suite)?);
-        } else if name == b"key" {
-            self.own_key(rt, rest)?;
-        } else if name == b"payload" {
-            self.payload(rt, rest)?;
-        } else if !crate::is_remark(name) {
-            self.setting(rt, name, rest)?;
-        }
-        Ok(())
-    }
-
-    /// Takes in an own key.
-    fn own_key(&mut self, rt: &HostRuntime, words: &[u8]) -> anyhow::Result<()> {
-        let (end, rest) = split_word(words);
-        let (sort, rest) = split_word(rest);
-        let (word, _) = split_word(rest);
-        let key = own_key(rt, sort, word)?;
-        if end == b"fob" {
-            self.fob_key = key;
-        } else {
-            self.mixer_key = key;
-        }
-        Ok(())
-    }
-
-    /// Takes in the number and the payload of a packet.
-    fn payload(&mut self, rt: &HostRuntime, words: &[u8]) -> anyhow::Result<()> {
-        let (number, rest) = split_word(words);
-        let (payload, _) = split_word(rest);
-        let packet = Packet {
-            number: decimal(number)?,
-            payload: octets(rt, payload)?,
-            message: Vec::new(rt.alloc()),
-            counter: 0,
-        };
-        self.packets.push(packet)?;
-        Ok(())
-    }
-
-    /// Takes in what both ends are made with and the secret; a key or a message is passed on by its name.
-    fn setting(&mut self, rt: &HostRuntime, name: &[u8], words: &[u8]) -> anyhow::Result<()> {
-        let (first, rest) = split_word(words);
-        let (second, _) = split_word(rest);
-        if name == b"identities" {
+        let (first, rest) = split_word(rest);
+        let (second, rest) = split_word(rest);
+        if name == b"cipher".as_slice() {
+            self.number = self.number.saturating_add(1);
+            self.speck = first == b"speck".as_slice();
+            self.packets = 0;
+        } else if name == b"key".as_slice() {
+            let (third, _) = split_word(rest);
+            let key = own_key(rt, second, third)?;
+            if first == b"fob".as_slice() {
+                self.fob_key = key;
+            } else {
+                self.mixer_key = key;
+            }
+        } else if name == b"identities".as_slice() {
             let fob = fixed::<10>(rt, first)?;
             let mixer = fixed::<10>(rt, second)?;
             self.identities = Identities { fob, mixer };
-        } else if name == b"nonces" {
+        } else if name == b"nonces".as_slice() {
             let fob = fixed::<12>(rt, first)?;
             let mixer = fixed::<12>(rt, second)?;
             self.nonces = Nonces { fob, mixer };
-        } else if name == b"secret" {
+        } else if name == b"secret".as_slice() {
             self.secret = fixed::<24>(rt, first)?;
-        } else if name.len() == 2 {
-            self.key(name, fixed::<16>(rt, first)?)?;
+        } else if name == b"IV".as_slice() || name == b"MK".as_slice() || name == b"KE".as_slice() || name == b"KI".as_slice() {
+            self.key(rt, name, fixed::<16>(rt, first)?, tally)?;
         } else {
-            self.message(rt, name, first)?;
+            self.message(rt, name, first, second, tally)?;
         }
         Ok(())
     }
 
-    /// Takes in a key or the first counter.
-    fn key(&mut self, name: &[u8], key: [u8; 16]) -> anyhow::Result<()> {
-        if name == b"MK" {
+    /// Takes in a key, and at the first counter compares all four.
+    fn key(
+        &mut self,
+        rt: &HostRuntime,
+        name: &[u8],
+        key: [u8; 16],
+        tally: &mut Tally,
+    ) -> anyhow::Result<()> {
+        if name == b"MK".as_slice() {
             self.keys.master = key;
-        } else if name == b"KE" {
+        } else if name == b"KE".as_slice() {
             self.keys.encryption = key;
-        } else if name == b"KI" {
+        } else if name == b"KI".as_slice() {
             self.keys.integrity = key;
-        } else if name == b"IV" {
+        } else {
             self.keys.counter = u128::from_be_bytes(key);
-        } else {
-            return Err(anyhow!("a line of a session has another name"));
-        }
-        Ok(())
-    }
-
-    /// Takes in a message, or the counter after a packet.
-    fn message(&mut self, rt: &HostRuntime, name: &[u8], word: &[u8]) -> anyhow::Result<()> {
-        let octets = octets(rt, word)?;
-        if name == b"ACT_REQ" {
-            self.act_req = octets;
-        } else if name == b"ACT_RES" {
-            self.act_res = octets;
-        } else if name == b"VFY_REQ" {
-            self.vfy_req = octets;
-        } else if name == b"VFY_RES" {
-            self.vfy_res = octets;
-        } else {
-            let Some(packet) = self.packets.last_mut() else {
-                return Err(anyhow!("a packet of a session has no payload"));
+            let derived = if self.speck {
+                self.derived::<Speck>()
+            } else {
+                self.derived::<Aes>()
             };
-            packet.line(name, octets)?;
+            let agrees = derived.master == self.keys.master
+                && derived.encryption == self.keys.encryption
+                && derived.integrity == self.keys.integrity
+                && derived.counter == self.keys.counter;
+            print!(rt; "session {} keys", self.number)?;
+            report(rt, agrees, tally)?;
         }
         Ok(())
     }
 
-    /// The number of the last packet.
-    pub(crate) fn last_number(&self) -> u32 {
-        match self.packets.last() {
-            Some(packet) => packet.number,
-            None => 0,
-        }
-    }
-
-    /// Compares a session that is read whole.
-    pub(crate) fn compare(&self, rt: &HostRuntime, tally: &mut Tally) -> anyhow::Result<()> {
-        match self.suite {
-            Suite::None => Ok(()),
-            Suite::Aes => self.compare_under::<Aes>(rt, tally),
-            Suite::Speck => self.compare_under::<Speck>(rt, tally),
-        }
-    }
-
-    fn compare_under<C: BlockCipher>(
-        &self,
-        rt: &HostRuntime,
-        tally: &mut Tally,
-    ) -> anyhow::Result<()> {
-        self.report(rt, "keys", self.keys_agree::<C>(), tally)?;
-        self.report(rt, "labels and secrets", self.secrets_agree()?, tally)?;
-        self.compare_ends::<C>(rt, tally)
-    }
-
-    /// Takes the session through both ends.
-    fn compare_ends<C: BlockCipher>(
-        &self,
-        rt: &HostRuntime,
-        tally: &mut Tally,
-    ) -> anyhow::Result<()> {
-        if let Err(difference) = replay::<C>(self) {
-            let what = format!(in rt.alloc(); "both ends, {difference}")?;
-            return self.report(rt, what.as_str(), false, tally);
-        }
-        let packets = self.packets.len();
-        let what = format!(in rt.alloc(); "both ends, 4 handshake messages, {packets} packets")?;
-        self.report(rt, what.as_str(), true, tally)
-    }
-
-    /// Writes the line of what was compared.
-    fn report(
-        &self,
-        rt: &HostRuntime,
-        what: &str,
-        agrees: bool,
-        tally: &mut Tally,
-    ) -> anyhow::Result<()> {
-        let number = self.number;
-        print!(rt; "session {number} ")?;
-        report(rt, what, agrees, tally)
-    }
-
-    /// Whether the keys and the first counter are derived from what both ends are made with.
-    fn keys_agree<C: BlockCipher>(&self) -> bool {
-        let derived = keyed::derive::<C>(
+    fn derived<C: BlockCipher>(&self) -> SessionKeys {
+        keyed::derive::<C>(
             &self.identities,
             &self.nonces,
             &self.secret,
             &mut [0; WORKSPACE],
-        );
-        derived.master == self.keys.master
-            && derived.encryption == self.keys.encryption
-            && derived.integrity == self.keys.integrity
-            && derived.counter == self.keys.counter
-    }
-
-    /// Whether each own key has the label in its end's message, and gives the other's label the secret.
-    fn secrets_agree(&self) -> anyhow::Result<bool> {
-        let fob = part::<25>(&self.act_req, 3)?;
-        let mixer = part::<25>(&self.act_res, 3)?;
-        Ok(
-            self.fob_key.gives(&fob, &mixer, &self.secret)
-                && self.mixer_key.gives(&mixer, &fob, &self.secret),
         )
     }
-}
 
-impl Packet {
-    /// Takes in its message, or the counter after it.
-    fn line(&mut self, name: &[u8], octets: Vec<u8>) -> anyhow::Result<()> {
-        if name == b"ENC" {
-            self.message = octets;
-        } else if name == b"counter" {
-            self.counter = u128::from_be_bytes(part::<16>(&octets, 0)?);
-        } else {
-            return Err(anyhow!("a line of a session has another name"));
+    /// Takes in a message, a payload or a counter, and compares what it gives.
+    fn message(
+        &mut self,
+        rt: &HostRuntime,
+        name: &[u8],
+        first: &[u8],
+        second: &[u8],
+        tally: &mut Tally,
+    ) -> anyhow::Result<()> {
+        if name == b"ACT_REQ".as_slice() {
+            self.labels.fob = part::<25>(&octets(rt, first)?, 3)?;
+        } else if name == b"ACT_RES".as_slice() {
+            self.labels.mixer = part::<25>(&octets(rt, first)?, 3)?;
+            let Labels { fob, mixer } = self.labels;
+            let agrees = self.fob_key.gives(&fob, &mixer, &self.secret)
+                && self.mixer_key.gives(&mixer, &fob, &self.secret);
+            print!(rt; "session {} labels and secrets", self.number)?;
+            report(rt, agrees, tally)?;
+        } else if name == b"VFY_REQ".as_slice() {
+            let agrees = self.confirms(Confirmation::Fob) == part::<12>(&octets(rt, first)?, 3)?;
+            print!(rt; "session {} fob's confirmation", self.number)?;
+            report(rt, agrees, tally)?;
+        } else if name == b"VFY_RES".as_slice() {
+            let agrees = self.confirms(Confirmation::Mixer) == part::<12>(&octets(rt, first)?, 3)?;
+            print!(rt; "session {} mixer's confirmation", self.number)?;
+            report(rt, agrees, tally)?;
+        } else if name == b"payload".as_slice() {
+            self.payload = octets(rt, second)?;
+        } else if name == b"ENC".as_slice() {
+            let packet = octets(rt, first)?;
+            self.packet_agrees = if self.speck {
+                self.packet::<Speck>(rt, &packet)?
+            } else {
+                self.packet::<Aes>(rt, &packet)?
+            };
+        } else if name == b"counter".as_slice() {
+            self.packets = self.packets.saturating_add(1);
+            let agrees = self.packet_agrees
+                && self.keys.counter == u128::from_be_bytes(fixed::<16>(rt, first)?);
+            print!(rt; "session {} packet {}", self.number, self.packets)?;
+            report(rt, agrees, tally)?;
         }
         Ok(())
+    }
+
+    fn confirms(&self, which: Confirmation) -> [u8; 12] {
+        if self.speck {
+            self.confirmation::<Speck>(which)
+        } else {
+            self.confirmation::<Aes>(which)
+        }
+    }
+
+    fn confirmation<C: BlockCipher>(&self, which: Confirmation) -> [u8; 12] {
+        keyed::confirmation_tag::<C>(
+            which,
+            &self.keys.master,
+            &self.identities,
+            &self.labels,
+            &self.nonces,
+            &mut [0; WORKSPACE],
+        )
+    }
+
+    /// Whether the data and the tag of a packet are those of the payload; moves the counter.
+    fn packet<C: BlockCipher>(&mut self, rt: &HostRuntime, packet: &[u8]) -> anyhow::Result<bool> {
+        let mut data = self.payload.clone()?;
+        let mut workspace = [0; WORKSPACE];
+        let n = self.payload.len();
+        self.keys.counter = keyed::keystream::<C>(
+            &self.keys.encryption,
+            self.keys.counter,
+            &self.payload,
+            &mut data,
+            &mut workspace,
+        );
+        if n > 4096 || packet.len() != n + 21 {
+            return Ok(false);
+        }
+        let tag = keyed::tag::<C>(&self.keys.integrity, &packet[3..n + 9], &mut workspace);
+        Ok(packet[9..n + 9] == data[0..n] && packet[n + 9..n + 21] == tag[0..12])
     }
 }
 
