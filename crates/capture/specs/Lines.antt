@@ -3,7 +3,6 @@ use Rattle.std.specs.Prelude.{ℕ, Bool, cond, ◌||◌, List, length, Some, Non
 use Rattle.text.specs.Words.{word_of, rest_of, number_of, octets_in}
 use Rattle.capture.specs.declared.Problem.{Problem}
 use Rattle.capture.specs.declared.Problem.TheVariants.{Kind, Protocol, Octets, More}
-use Rattle.capture.specs.declared.Captured.{Captured}
 use Rattle.capture.specs.declared.Line.{Line}
 use Rattle.capture.specs.declared.Line.TheVariants.{Nothing, Message, Unreadable}
 

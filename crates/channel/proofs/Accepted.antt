@@ -1,9 +1,8 @@
 -- A packet that passed every test is accepted, and its data deciphered.
-use Rattle.std.proofs.Common.{◌≡◌, ℕ, ◌+◌, ◌<◌, ◌≤◌, true, eqb, ltb, leb, List, ◌++◌, length, take, drop, Ok, Result, sym, ap, ◌∙◌, arith}
+use Rattle.std.proofs.Common.{◌≡◌, ℕ, ◌+◌, ◌<◌, ◌≤◌, true, eqb, ltb, leb, List, ◌++◌, length, take, drop, Ok, sym, ap, ◌∙◌, arith}
 use Rattle.std.specs.Str.{bytes_eq}
 use Rattle.std.proofs.lemmas.List.{take_all, length-drop, length-take-le}
 use Rattle.std.proofs.lemmas.Bool.{le-ltb, lt-leb, ltb-false, eqb-true, cond-true}
-use Rattle.fault.specs.declared.Fault.{Fault}
 use Rattle.keyed.specs.Keystream.{xored, moved, over}
 use Rattle.keyed.proofs.Stream.{keeps_length}
 use Rattle.message.specs.Layout.{number_at}

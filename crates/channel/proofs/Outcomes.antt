@@ -1,19 +1,17 @@
 -- A refusal passes through what depends on it, and an acceptance came through every test.
-use Rattle.std.proofs.Common.{◌≡◌, ℕ, ◌+◌, ◌<◌, ◌≤◌, Bool, true, false, cond, not, ltb, leb, List, length, Ok, Err, Result, sym, refl, ap, ◌∙◌, arith}
+use Rattle.std.proofs.Common.{◌≡◌, ℕ, ◌+◌, ◌<◌, ◌≤◌, not, ltb, leb, List, length, Ok, sym, ap, ◌∙◌, arith}
 use Rattle.std.specs.Str.{bytes_eq}
 use Rattle.std.proofs.lemmas.Bool.{ltb-false, leb-false, not-false}
-use Rattle.fault.specs.declared.Fault.{Fault}
-use Rattle.lookup.specs.declared.Reply.{Reply}
 use Rattle.message.specs.Layout.{number_at}
 use Rattle.message.specs.Reading.{checked}
 use Rattle.message.proofs.Again.{passed, went_on}
 use Rattle.channel.proofs.Checks.{after_check}
 use Rattle.message.specs.Writing.{octets_of, act, verify}
 use Rattle.channel.specs.declared.Open.{Open}
-use Rattle.channel.specs.Steps.{and_then, settled, started, written}
+use Rattle.channel.specs.Steps.{settled, started, written}
 use Rattle.channel.specs.Handshake.{to_invited, to_answered, to_proved, open_mixer, open_fob, ticket}
 use Rattle.channel.specs.Packets.{seals_at, data_in, tag_of, advanced_end, crypted, packet_tag, sealed_packet, seal_check, seal_end, unseal_check, unseal_end}
-use Rattle.channel.specs.Laws.{RefusalsKeep, Moved, Sealed, Unsealed, OutcomeLaws}
+use Rattle.channel.specs.Laws.{Moved, Sealed, Unsealed, OutcomeLaws}
 
 moves : {C K : Type 0} (x y : Open C K) (n : ℕ) → y ≡ advanced_end x n → Moved x y n
 moves x y n e = record {

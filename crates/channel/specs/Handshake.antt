@@ -1,11 +1,10 @@
 -- What the calls of the handshake make of an end, by the meaning of the cipher (its protocol identifier pid and its function e)
 -- and of the key lookup (own label and replies).
-use Rattle.std.specs.Prelude.{ℕ, cond, List, length, Ok, Err, Result}
+use Rattle.std.specs.Prelude.{ℕ, cond, List, Ok, Err, Result}
 use Rattle.std.specs.Str.{bytes_eq}
 use Rattle.fault.specs.declared.Fault.{Fault}
 use Rattle.fault.specs.declared.HandshakeCause.TheVariants.{Tag}
 use Rattle.fault.specs.Faults.{handshake_fault}
-use Rattle.keyed.specs.declared.derivation.Identities.{Identities}
 use Rattle.keyed.specs.declared.derivation.SessionKeys.{SessionKeys}
 use Rattle.keyed.specs.declared.confirm.Confirmation.{Confirmation}
 use Rattle.keyed.specs.declared.confirm.Confirmation.TheVariants.{Fob as OfFob, Mixer as OfMixer}
@@ -16,7 +15,6 @@ use Rattle.lookup.specs.declared.Reply.{Reply}
 use Rattle.message.specs.Reading.{checked}
 use Rattle.message.specs.Writing.{octets_of, act, verify}
 use Rattle.channel.specs.declared.Nonce.{Nonce}
-use Rattle.channel.specs.declared.Role.{Role}
 use Rattle.channel.specs.declared.Role.TheVariants.{Fob as FobRole, Mixer as MixerRole}
 use Rattle.channel.specs.declared.Fob.{Fob}
 use Rattle.channel.specs.declared.Invited.{Invited}
@@ -29,7 +27,7 @@ use Rattle.channel.specs.declared.Open.{Open}
 use Rattle.channel.specs.declared.Ticket.{Ticket}
 use Rattle.channel.specs.declared.NotStarted.{NotStarted}
 use Rattle.channel.specs.declared.Refused.{Refused}
-use Rattle.channel.specs.Steps.{sized, unless, and_then, secret_or, settled, started, written, label_in, nonce_in, tag_in}
+use Rattle.channel.specs.Steps.{sized, and_then, secret_or, settled, started, written, label_in, nonce_in, tag_in}
 
 -- the ticket that opening hands out
 abbrev pub ticket : Ticket

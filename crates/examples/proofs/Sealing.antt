@@ -1,14 +1,13 @@
 -- What seal answers a fob whose turn it is, and the check of a message that is an octet short.
-use Rattle.std.proofs.Common.{◌≡◌, ℕ, ◌+◌, ◌%◌, ◌^◌, ◌<◌, ◌≤◌, true, false, eqb, ltb, leb, List, length, get_or, Ok, Err, sym, refl, ap, ◌∙◌, arith}
-use Rattle.std.proofs.lemmas.Bool.{lt-ltb, le-ltb, le-leb, lt-leb, eq-eqb, ne_eqb}
+use Rattle.std.proofs.Common.{◌≡◌, ℕ, ◌+◌, ◌%◌, ◌^◌, ◌<◌, ◌≤◌, true, false, eqb, ltb, leb, List, length, get_or, Ok, Err, refl, ap, ◌∙◌, arith}
+use Rattle.std.proofs.lemmas.Bool.{lt-ltb, le-ltb, le-leb, lt-leb, eq-eqb}
 use Rattle.fault.specs.declared.HostCause.TheVariants.{PayloadLength, LastNumber}
 use Rattle.fault.specs.declared.MessageCause.TheVariants.{Length}
 use Rattle.fault.specs.Faults.{host_fault, message_fault}
 use Rattle.keyed.specs.Keystream.{moved}
 use Rattle.message.specs.Reading.{checked}
-use Rattle.channel.specs.declared.Role.TheVariants.{Fob}
 use Rattle.channel.specs.declared.Open.{Open}
-use Rattle.channel.specs.Packets.{seals_at, seal_check, seal_end}
+use Rattle.channel.specs.Packets.{seals_at, seal_check}
 use Rattle.examples.specs.Examples.{Ready}
 
 module _ {C K : Type 0} (x : Open C K) (p w o : List ℕ) (r : Ready x w o) where

@@ -1,5 +1,5 @@
 -- What C is told of a tag or a keystream under AES, and what the output then holds.
-use Rattle.std.specs.Prelude.{ℕ, zero, suc, Bool, cond, not, ◌&&◌, ◌||◌, List, ◌++◌, length, drop, ◌==◌, nat_lt}
+use Rattle.std.specs.Prelude.{ℕ, cond, not, ◌||◌, List, ◌++◌, length, drop, ◌==◌, nat_lt}
 use Rattle.std.specs.Int.Digits.{number_from_digits}
 use Rattle.aes.specs.Rounds.{cipher}
 use Rattle.aes.specs.Schedule.{key_expansion}

@@ -1,5 +1,5 @@
 -- What C is told.
-use Rattle.std.specs.Prelude.{ℕ, Ok, Err, Result}
+use Rattle.std.specs.Prelude.{Ok, Err, Result}
 use Rattle.fault.specs.declared.Fault.{Fault}
 use Rattle.fault.specs.Faults.{number_of}
 use Rattle.firmware.specs.declared.Verdict.{Verdict}

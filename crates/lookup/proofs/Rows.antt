@@ -1,5 +1,5 @@
 -- Rows are cut and searched from the front.
-use Rattle.std.proofs.Common.{◌≡◌, ℕ, suc, ◌/◌, ◌<◌, List, [], ◌∷◌, ◌++◌, length, take, drop, None, ap, ◌∙◌, ap₂, arith, length-append}
+use Rattle.std.proofs.Common.{◌≡◌, ℕ, suc, ◌/◌, ◌<◌, List, ◌∷◌, ◌++◌, length, None, ap, ◌∙◌, ap₂, arith, length-append}
 use Rattle.std.proofs.lemmas.List.{take_at, drop_at}
 use Rattle.std.specs.Option.{option_or}
 use Rattle.lookup.specs.Chip.{cut, rows_of, matching_reply, deciding_reply}

@@ -15,7 +15,7 @@ use lookup::{KeyLookup, Reply};
 
 /// The secret that a key shares with a peer.
 pub fn secret<K: KeyLookup>(key: &K, peer: &[u8; 25]) -> Option<[u8; 24]>
-    ensures value { result ≡ secret_in (replies key.now peer.now) }
+    ensures value { result ≡ secret_in (K.KeyLookup.replies key.now peer.now) }
 {
     match key.reply(peer) {
         Reply::Secret(z) => Some(z),

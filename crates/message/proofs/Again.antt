@@ -1,15 +1,13 @@
 -- A message that is read, written again from its fields, is the same octets.
-use Rattle.std.proofs.Common.{◌≡◌, ℕ, suc, ◌+◌, ◌*◌, ◌/◌, ◌%◌, ◌<◌, ◌≤◌, Bool, true, false, cond, ◌&&◌, eqb, ltb, leb, List, [], ◌∷◌, ◌++◌, length, get_or, take, drop, Ok, Err, Result, sym, refl, ap, ◌∙◌, arith, drop-cons}
+use Rattle.std.proofs.Common.{◌≡◌, ℕ, suc, ◌+◌, ◌*◌, ◌/◌, ◌%◌, ◌<◌, ◌≤◌, Bool, true, false, cond, ◌&&◌, eqb, ltb, List, [], ◌∷◌, ◌++◌, length, get_or, take, drop, Ok, Err, Result, sym, refl, ap, ◌∙◌, arith, drop-cons}
 use Rattle.std.proofs.lemmas.List.{take-append-drop, drop-drop, length-drop, length-take-le, take_all, append-nil}
 use Rattle.std.proofs.lemmas.Bool.{ltb-false, eqb-true, and_parts}
 use Rattle.fault.specs.declared.Fault.{Fault}
 use Rattle.message.specs.declared.Direction.TheVariants.{Request, Response}
-use Rattle.message.specs.declared.Kind.{Kind}
 use Rattle.message.specs.declared.Kind.TheVariants.{Act, Verify, Enc}
-use Rattle.message.specs.Layout.{kind_number, known, map_of, number_at, three_octets}
-use Rattle.message.specs.Reading.{checked, shaped, fields_at}
-use Rattle.message.specs.Writing.{octets_of}
-use Rattle.message.specs.Laws.{Octets, WrittenAgain, ByTheMap}
+use Rattle.message.specs.Layout.{known, map_of, number_at, three_octets}
+use Rattle.message.specs.Reading.{checked, shaped}
+use Rattle.message.specs.Laws.{WrittenAgain, ByTheMap}
 
 -- an answer that is Ok came by the way that does not refuse
 module _ {W : Type 0} where

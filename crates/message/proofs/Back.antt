@@ -1,9 +1,8 @@
 -- What is written reads back equal, and what is read is written again.
-use Rattle.std.proofs.Common.{◌≡◌, ℕ, ◌+◌, ◌*◌, ◌/◌, ◌%◌, ◌<◌, ◌≤◌, true, false, eqb, ltb, leb, List, [], ◌∷◌, ◌++◌, length, take, drop, sym, refl, ap, ◌∙◌, arith}
+use Rattle.std.proofs.Common.{◌≡◌, ℕ, ◌+◌, ◌*◌, ◌/◌, ◌%◌, true, false, eqb, ltb, List, ◌++◌, length, take, drop, sym, refl, ap, ◌∙◌, arith}
 use Rattle.std.proofs.lemmas.List.{take_at, drop_at, drop-drop, length-append, take_all}
 use Rattle.std.proofs.lemmas.Bool.{eq-eqb, le-ltb}
 use Rattle.message.specs.declared.Direction.TheVariants.{Request, Response}
-use Rattle.message.specs.Layout.{number_at}
 use Rattle.message.specs.Writing.{octets_of, enc}
 use Rattle.message.specs.Laws.{ActBack, VerifyBack, EncBack}
 

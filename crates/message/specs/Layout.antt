@@ -1,6 +1,5 @@
 -- The kinds of messages, their numbers, names and maps, and numbers of three octets.
 use Rattle.std.specs.Prelude.{ℕ, ◌+◌, ◌*◌, ◌/◌, ◌%◌, Bool, cond, ◌&&◌, List, [], ◌∷◌, Some, None, codes, Option, ◌==◌, nat_le, slice_index}
-use Rattle.message.specs.declared.Direction.{Direction}
 use Rattle.message.specs.declared.Direction.TheVariants.{Request, Response}
 use Rattle.message.specs.declared.Kind.{Kind}
 use Rattle.message.specs.declared.Kind.TheVariants.{Act, Verify, Enc}

@@ -3,9 +3,7 @@ use Rattle.std.specs.Prelude.{ℕ, ◌+◌, cond, List, ◌∷◌, ◌++◌, len
 use Rattle.fault.specs.declared.HostCause.TheVariants.{Size, PayloadLength}
 use Rattle.fault.specs.declared.Fault.{Fault}
 use Rattle.fault.specs.Faults.{host_fault}
-use Rattle.message.specs.declared.Kind.{Kind}
-use Rattle.message.specs.declared.Kind.TheVariants.{Act, Verify, Enc}
-use Rattle.message.specs.Layout.{kind_number, three_octets}
+use Rattle.message.specs.Layout.{three_octets}
 
 -- the fields of a message: label and nonce; a tag; number, data and tag
 pub data Fields : Type 0 where

@@ -1,5 +1,5 @@
 -- Small facts on lists, strings, roles and counters.
-use Rattle.std.proofs.Common.{◌≡◌, ℕ, ◌+◌, ◌/◌, ◌%◌, ◌^◌, ◌<◌, ◌≤◌, ◌≢◌, List, [], ◌∷◌, ◌++◌, length, get_or, sym, refl, ap, ◌∙◌, inr, append_assoc, arith, length-append}
+use Rattle.std.proofs.Common.{◌≡◌, ℕ, ◌+◌, ◌/◌, ◌%◌, ◌^◌, ◌<◌, ◌≤◌, ◌≢◌, List, [], ◌∷◌, ◌++◌, length, sym, refl, ap, ◌∙◌, inr, append_assoc, arith, length-append}
 use Rattle.std.proofs.lemmas.List.{same_from_push}
 use Rattle.keyed.specs.Derivation.{split, master_string, encryption_string, integrity_string}
 use Rattle.keyed.specs.Keystream.{blocks, moved}

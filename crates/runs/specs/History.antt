@@ -1,11 +1,10 @@
 -- Histories: what a list of calls makes of a fob and a mixer. Each call has the outcome that its own definition gives.
-use Rattle.std.specs.Prelude.{ℕ, ◌+◌, cond, List, [], ◌∷◌, ◌++◌, take, Ok, Err, fold, Result}
+use Rattle.std.specs.Prelude.{ℕ, ◌+◌, List, [], ◌∷◌, ◌++◌, take, Ok, Err, fold, Result}
 use Rattle.fault.specs.declared.Fault.{Fault}
 use Rattle.fault.specs.declared.Layer.{Layer}
 use Rattle.fault.specs.declared.Layer.TheVariants.{Host, Message, Handshake, Channel}
 use Rattle.fault.specs.declared.HandshakeCause.TheVariants.{Tag as HandshakeTag, Label}
 use Rattle.fault.specs.declared.ChannelCause.TheVariants.{Stale, Ahead, Tag as ChannelTag}
-use Rattle.keyed.specs.declared.derivation.Identities.{Identities}
 use Rattle.keyed.specs.declared.confirm.Confirmation.TheVariants.{Fob as OfFob, Mixer as OfMixer}
 use Rattle.keyed.specs.Derivation.{derivation_results}
 use Rattle.keyed.specs.Strings.{packet}
@@ -14,14 +13,12 @@ use Rattle.lookup.specs.declared.Reply.TheVariants.{Secret, Invalid}
 use Rattle.message.specs.Layout.{number_at}
 use Rattle.channel.specs.declared.Role.{Role}
 use Rattle.channel.specs.declared.Role.TheVariants.{Fob as AtFob, Mixer as AtMixer}
-use Rattle.channel.specs.declared.Nonce.{Nonce}
 use Rattle.channel.specs.declared.Fob.{Fob}
 use Rattle.channel.specs.declared.Mixer.{Mixer}
 use Rattle.channel.specs.declared.Invited.{Invited}
 use Rattle.channel.specs.declared.Answered.{Answered}
 use Rattle.channel.specs.declared.Proved.{Proved}
 use Rattle.channel.specs.declared.Session.{Session}
-use Rattle.channel.specs.declared.Epoch.{Epoch}
 use Rattle.channel.specs.declared.Open.{Open}
 use Rattle.channel.specs.declared.Ticket.{Ticket}
 use Rattle.channel.specs.declared.NotStarted.{NotStarted}

@@ -1,10 +1,10 @@
 -- The calls that each end has, from the call's name on.
-use Rattle.std.specs.Prelude.{ℕ, cond, List, Ok, Err, Result}
+use Rattle.std.specs.Prelude.{ℕ, cond, List, Err, Result}
 use Rattle.text.specs.Words.{word_of, rest_of}
 use Rattle.script.specs.declared.Problem.{Problem}
 use Rattle.script.specs.declared.Problem.TheVariants.{Call}
 use Rattle.script.specs.Views.{CallView, invite, answer, prove, confirm, finish, seal, unseal, close}
-use Rattle.script.specs.Parts.{and_then, into, is_word, ended, last_source, last_payload}
+use Rattle.script.specs.Parts.{into, is_word, ended, last_source, last_payload}
 
 -- calls of both ends: seal PAYLOAD, unseal SOURCE or close
 abbrev pub packet_call : List ℕ → Result CallView Problem

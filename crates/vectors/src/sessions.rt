@@ -143,7 +143,11 @@ impl Session {
             self.nonces = Nonces { fob, mixer };
         } else if name == b"secret".as_slice() {
             self.secret = fixed::<24>(rt, first)?;
-        } else if name == b"IV".as_slice() || name == b"MK".as_slice() || name == b"KE".as_slice() || name == b"KI".as_slice() {
+        } else if name == b"IV".as_slice()
+            || name == b"MK".as_slice()
+            || name == b"KE".as_slice()
+            || name == b"KI".as_slice()
+        {
             self.key(rt, name, fixed::<16>(rt, first)?, tally)?;
         } else {
             self.message(rt, name, first, second, tally)?;

@@ -1,5 +1,5 @@
 -- The examples by computing, and for every end by the tests in their order.
-use Rattle.std.proofs.Common.{◌≡◌, ℕ, ◌+◌, [], length, Ok, Err, sym, refl, ap, ◌∙◌, arith, lit≤}
+use Rattle.std.proofs.Common.{◌≡◌, ◌+◌, [], length, Ok, refl, ap, ◌∙◌, arith, lit≤}
 use Rattle.aes.specs.Field.{product, inverse, inverse_from}
 use Rattle.aes.specs.Sbox.{sbox}
 use Rattle.keyed.specs.Keystream.{counter_block}

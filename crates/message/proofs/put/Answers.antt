@@ -1,5 +1,5 @@
 -- Each part stands after the one before.
-use Rattle.std.proofs.Common.{◌≡◌, ◌+◌, ◌-◌, length, refl, arith}
+use Rattle.std.proofs.Common.{◌+◌, ◌-◌, length, refl, arith}
 use Rattle.message.proofs.Laid.{laid}
 use Rattle.message.proofs.put.Goals as goal
 

@@ -1,7 +1,7 @@
 -- Sixteen octets from 16 n on, as a state, are the words from 4 n on.
 use Rattle.std.proofs.Common.{◌≡◌, ℕ, ◌+◌, ◌-◌, ◌*◌, ◌<◌, List, get_or, take, drop, ap, ◌∙◌, arith, lit<}
 use Rattle.std.proofs.lemmas.List.{get_or-take, get_or-drop}
-use Rattle.aes.specs.Schedule.{four, octet}
+use Rattle.aes.specs.Schedule.{four}
 use Rattle.aes.specs.Rounds.{input, round_key}
 use Rattle.aes.proofs.rounds.round_key.Goals as goal
 

@@ -1,5 +1,5 @@
 -- The table of the round constants holds the powers of x.
-use Rattle.std.proofs.Common.{◌≡◌, ℕ, ◌-◌, ◌<◌, true, List, get_or, refl, arith, rules}
+use Rattle.std.proofs.Common.{◌≡◌, ℕ, ◌-◌, ◌<◌, true, List, get_or, arith, rules}
 use Rattle.aes.specs.Field.{x_power, product}
 use Rattle.aes.proofs.Below.{agree, below}
 use Rattle.aes.proofs.schedule.round_constant.Goals as goal

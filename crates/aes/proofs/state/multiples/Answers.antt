@@ -1,5 +1,5 @@
 -- The shift, with hex 1B where the top bit falls out, is the product with 2; the octet added to it gives the product with 3.
-use Rattle.std.proofs.Common.{◌≡◌, ℕ, ◌*◌, ◌/◌, ◌%◌, ◌<◌, refl, ap₂, rules}
+use Rattle.std.proofs.Common.{ℕ, ◌*◌, ◌/◌, ◌%◌, ◌<◌, refl, ap₂, rules}
 use lib.Bits.{bit_xor}
 use Rattle.aes.specs.Field.{product}
 use Rattle.aes.proofs.Below.{below}

@@ -1,5 +1,5 @@
 -- Every test was passed.
-use Rattle.std.proofs.Common.{◌≡◌, sym, ap, ◌∙◌, arith, rules}
+use Rattle.std.proofs.Common.{sym, ap, ◌∙◌, arith, rules}
 use Rattle.cipher.specs.Cipher.{E}
 use Rattle.channel.proofs.Accepted.{accepted, fitting}
 use Rattle.channel.proofs.Epoch.check_packet.Goals as goal

@@ -1,5 +1,5 @@
 -- Head, data and tag stand one after another, and the tag is that of what stands from the number on.
-use Rattle.std.proofs.Common.{◌≡◌, ℕ, ◌+◌, ◌-◌, ◌++◌, length, drop, refl, ap, ◌∙◌, arith, rules}
+use Rattle.std.proofs.Common.{◌≡◌, ◌+◌, ◌-◌, ◌++◌, length, drop, refl, ap, ◌∙◌, arith, rules}
 use Rattle.cipher.specs.Cipher.{E}
 use Rattle.keyed.specs.Strings.{packet}
 use Rattle.keyed.specs.Xcbc.{tag}

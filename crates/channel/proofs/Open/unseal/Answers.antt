@@ -1,5 +1,5 @@
 -- The workspace has its size, and the guard clears what the work left.
-use Rattle.std.proofs.Common.{◌+◌, length, sym, ap, ◌∙◌, arith, rules}
+use Rattle.std.proofs.Common.{sym, ap, ◌∙◌, arith, rules}
 use Rattle.cipher.specs.Cipher.{E}
 use Rattle.cipher.proofs.Cleared.{left_after}
 use Rattle.channel.specs.Steps.{written}

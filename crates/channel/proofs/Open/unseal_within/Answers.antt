@@ -1,8 +1,7 @@
 -- The data is deciphered whole, and the end moves on by it.
-use Rattle.std.proofs.Common.{◌≡◌, ◌+◌, ◌-◌, ap, ◌∙◌, arith, rules}
+use Rattle.std.proofs.Common.{◌+◌, ◌-◌, ap, ◌∙◌, arith}
 use Rattle.cipher.specs.Cipher.{E}
 use Rattle.channel.specs.declared.Epoch.{Epoch}
-use Rattle.channel.specs.declared.Open.{Open}
 use Rattle.channel.specs.Within.{advanced_to}
 use Rattle.channel.proofs.Accepted.{deciphered, counted}
 use Rattle.channel.proofs.Open.unseal_within.Goals as goal

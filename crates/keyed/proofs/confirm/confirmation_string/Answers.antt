@@ -1,5 +1,5 @@
 -- Each of the two strings fills its seventy-one octets.
-use Rattle.std.proofs.Common.{replicate, refl, ap, ◌∙◌, arith, length-append}
+use Rattle.std.proofs.Common.{replicate, refl, arith, length-append}
 use Rattle.keyed.specs.Strings.{confirmation}
 use Rattle.keyed.proofs.Joins.{fills_confirmation}
 use Rattle.keyed.proofs.confirm.confirmation_string.Goals as goal

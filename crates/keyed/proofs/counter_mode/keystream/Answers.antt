@@ -1,5 +1,5 @@
 -- A block comes where it is due, each octet is written with its own, and the counter ends behind the last block.
-use Rattle.std.proofs.Common.{◌≡◌, ℕ, ◌+◌, ◌-◌, ◌/◌, ◌%◌, ◌^◌, ◌<◌, List, length, take, refl, ap, ◌∙◌, arith, length-take, rules}
+use Rattle.std.proofs.Common.{◌≡◌, ◌+◌, ◌-◌, ◌/◌, ◌%◌, ◌^◌, length, take, refl, ap, ◌∙◌, arith, length-take, rules}
 use Rattle.cipher.specs.Cipher.{E, enciphered}
 use Rattle.keyed.specs.Keystream.{counter_block, moved}
 use Rattle.keyed.proofs.Schedules.{enciphers, keeps}

@@ -1,5 +1,4 @@
 -- The result is that of the parts joined.
-use Rattle.std.proofs.Common.{arith}
 use Rattle.cipher.specs.Cipher.{E}
 use Rattle.keyed.proofs.Joins.{joined-result}
 use Rattle.keyed.proofs.parts.result_of.Goals as goal

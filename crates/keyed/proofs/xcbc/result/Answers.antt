@@ -1,5 +1,5 @@
 -- The result comes from its parts, and what lies past the schedule is kept.
-use Rattle.std.proofs.Common.{◌≡◌, ◌∙◌, arith, rules}
+use Rattle.std.proofs.Common.{◌∙◌, arith, rules}
 use Rattle.cipher.specs.Cipher.{E}
 use Rattle.keyed.proofs.Blocks.{result_is}
 use Rattle.keyed.proofs.Schedules.{enciphers, keeps}

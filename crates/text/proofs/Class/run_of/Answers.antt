@@ -1,5 +1,5 @@
 -- A character of the class makes the run one longer; another ends it.
-use Rattle.std.proofs.Common.{◌≡◌, sym, arith}
+use Rattle.std.proofs.Common.{sym, arith}
 use Rattle.std.proofs.lemmas.List.Sums.{prefix_len-drop_yes, prefix_len-drop_no, prefix_len-drop_all}
 use Rattle.text.specs.Words.{belongs}
 use Rattle.text.proofs.Class.run_of.Goals as goal
