@@ -8,7 +8,7 @@ use Rattle.sessions.proofs.unaltered.pass_one.Goals as goal
 pub returns : goal.returns
 returns g c =
     let e : List ℕ → List ℕ → List ℕ = E g.C.BlockCipher.schedule g.C.BlockCipher.worked in
-    let whole : Blocks e = λ k x. search rules in
+    let whole : Blocks e = λ k x. g.met.C.BlockCipher.blocks (g.C.BlockCipher.schedule k) x in
     record {
       value = c.pass_within.ensures.value;
       sealer = c.pass_within.ensures.sealer;

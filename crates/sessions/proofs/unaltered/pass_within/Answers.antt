@@ -13,7 +13,7 @@ use Rattle.sessions.proofs.unaltered.pass_within.Goals as goal
 pub returns-in_err-size : goal.returns-in_err-size
 returns-in_err-size g c =
     let is = c.seal.ensures.value ∙ sealing_is c.args.sealer.now c.args.payload.now c.args.workspace.now c.args.packet.now (omega arith) (omega arith) in
-    let y = err_from_is_err_and c.from-residual.result c.from-residual.ensures.1 in
+    let y = err_from_is_err_and c.from_residual.result c.from_residual.ensures.1 in
     let k = seal_refused g.C.BlockCipher.protocol (E g.C.BlockCipher.schedule g.C.BlockCipher.worked)
     c.args.sealer.now c.args.unsealer.now c.args.payload.now _ (sym is ∙ c.in_err-size.was) in
     record {
@@ -42,7 +42,7 @@ returns-in_err-count g c =
     let m : List ℕ = take (n - 0) c.seal.new.output in
     let k = seal_accepted pid e s r p n (sealed_answer pid e whole s r p w o n hw ho ok) in
     let t = c.unseal.ensures.value ∙ unsealed_answer pid e whole s r p w o n hw ho ok m c.seal.new.workspace c.args.output.now cut hw' ho' in
-    let y = err_from_is_err_and c.from-residual-in_err-count.result c.from-residual-in_err-count.ensures.1 in
+    let y = err_from_is_err_and c.from_residual-in_err-count.result c.from_residual-in_err-count.ensures.1 in
     record {
       value = y.1 ∙ ap Err y.2 ∙ sym (k.0 ∙ ap (λ q. and_then q (Ok (came_out pid e s r p))) (sym t ∙ c.in_err-count.was));
       sealer = c.seal.ensures.end ∙ ap (seal_end s p) (c.seal.ensures.value ∙ sealing_is s p w o hw ho);

@@ -14,7 +14,7 @@ pub returns-in-Ok : goal.returns-in-Ok
 returns-in-Ok g c =
     let pid : ℕ = g.C.BlockCipher.protocol in
     let e : List ℕ → List ℕ → List ℕ = E g.C.BlockCipher.schedule g.C.BlockCipher.worked in
-    let whole : Blocks e = λ k x. search rules in
+    let whole : Blocks e = λ k x. g.met.C.BlockCipher.blocks (g.C.BlockCipher.schedule k) x in
     let ps : List (List ℕ) = held c.args.payloads.now in
     let r : Result (Ended g.row.K.Denot g.row.L.Denot) (Unopened g.row.K.Denot g.row.L.Denot) =
     Ok (record { passed = c.pass_all-passed.result; closed = c.close-closed.result }) in

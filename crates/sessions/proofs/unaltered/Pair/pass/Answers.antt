@@ -25,7 +25,7 @@ returns-then-not-pass_next g c =
     let pid : ℕ = g.C.BlockCipher.protocol in
     let e : List ℕ → List ℕ → List ℕ = E g.C.BlockCipher.schedule g.C.BlockCipher.worked in
     let ps : List (List ℕ) = replicate c.args.count c.args.payload.now in
-    let whole : Blocks e = λ k x. search rules in
+    let whole : Blocks e = λ k x. g.met.C.BlockCipher.blocks (g.C.BlockCipher.schedule k) x in
     let long : length ps ≡ c.args.count = length-replicate c.args.count c.args.payload.now in
     let i : ℕ = c.loop-i.i in
     let p : List ℕ = c.args.payload.now in
@@ -42,7 +42,7 @@ returns g c =
     let pid : ℕ = g.C.BlockCipher.protocol in
     let e : List ℕ → List ℕ → List ℕ = E g.C.BlockCipher.schedule g.C.BlockCipher.worked in
     let ps : List (List ℕ) = replicate c.args.count c.args.payload.now in
-    let whole : Blocks e = λ k x. search rules in
+    let whole : Blocks e = λ k x. g.met.C.BlockCipher.blocks (g.C.BlockCipher.schedule k) x in
     let long : length ps ≡ c.args.count = length-replicate c.args.count c.args.payload.now in
     let t = going_done pid e c.args.self.now c.loop-i.self ps c.loop-i.i c.loop-i.invariant c.args.count long (omega arith) (omega arith) in
     record {

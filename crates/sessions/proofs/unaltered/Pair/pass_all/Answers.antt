@@ -26,7 +26,7 @@ returns-then-not-pass_next g c =
     let pid : ℕ = g.C.BlockCipher.protocol in
     let e : List ℕ → List ℕ → List ℕ = E g.C.BlockCipher.schedule g.C.BlockCipher.worked in
     let ps : List (List ℕ) = held c.args.payloads.now in
-    let whole : Blocks e = λ k x. search rules in
+    let whole : Blocks e = λ k x. g.met.C.BlockCipher.blocks (g.C.BlockCipher.schedule k) x in
     let long : length ps ≡ length c.args.payloads.now = length-map c.args.payloads.now (λ (v : Bor (List ℕ)). v.now) in
     let i : ℕ = c.loop-i.i in
     let p : List ℕ = (get_or c.args.payloads.now i nothing).now in
@@ -43,7 +43,7 @@ returns g c =
     let pid : ℕ = g.C.BlockCipher.protocol in
     let e : List ℕ → List ℕ → List ℕ = E g.C.BlockCipher.schedule g.C.BlockCipher.worked in
     let ps : List (List ℕ) = held c.args.payloads.now in
-    let whole : Blocks e = λ k x. search rules in
+    let whole : Blocks e = λ k x. g.met.C.BlockCipher.blocks (g.C.BlockCipher.schedule k) x in
     let long : length ps ≡ length c.args.payloads.now = length-map c.args.payloads.now (λ (v : Bor (List ℕ)). v.now) in
     let t = going_done pid e c.args.self.now c.loop-i.self ps c.loop-i.i c.loop-i.invariant (length c.args.payloads.now) long (omega arith) (omega arith) in
     record {
