@@ -1,7 +1,6 @@
 -- What opening both ends comes to, where each call is given what the other end wrote.
 use Rattle.std.specs.Prelude.{◌≡◌, ℕ, List, length, Ok, Err, Result}
 use Rattle.fault.specs.declared.Fault.{Fault}
-use Rattle.lookup.specs.declared.Reply.{Reply}
 use Rattle.channel.specs.declared.Nonce.{Nonce}
 use Rattle.channel.specs.declared.Fob.{Fob}
 use Rattle.channel.specs.declared.Mixer.{Mixer}

@@ -28,7 +28,7 @@ fn run(rt: &HostRuntime) -> anyhow::Result<()> {
         rt.stdin().read_to_end(&mut text)?;
         return simulate(rt, text.as_slice());
     };
-    if word.as_bytes() == b"help" {
+    if word.as_bytes() == b"help".as_slice() {
         return help::show(rt);
     }
     let text = fs::read(rt, word.as_str())?;

@@ -1,19 +1,16 @@
 -- What an accepted call of the handshake wrote and read is what the history says that it did.
-use Rattle.std.proofs.Common.{◌≡◌, ℕ, ◌+◌, ◌≤◌, Bool, true, false, cond, eqb, ltb, List, [], ◌∷◌, length, take, drop, Ok, Err, Result, sym, refl, ap, ◌∙◌, arith}
+use Rattle.std.proofs.Common.{◌≡◌, ℕ, ◌≤◌, Bool, true, false, cond, eqb, ltb, List, [], ◌∷◌, length, take, Ok, Err, Result, sym, refl, ap, ◌∙◌, arith}
 use Rattle.std.specs.Str.{bytes_eq}
 use Rattle.std.proofs.lemmas.Bool.{eqb-true}
 use Rattle.fault.specs.declared.Fault.{Fault}
 use Rattle.keyed.specs.declared.derivation.SessionKeys.{SessionKeys}
 use Rattle.keyed.specs.declared.confirm.Confirmation.TheVariants.{Fob as OfFob, Mixer as OfMixer}
 use Rattle.keyed.specs.Derivation.{derived}
-use Rattle.keyed.specs.Strings.{confirmation}
-use Rattle.keyed.specs.Xcbc.{tag}
 use Rattle.lookup.specs.declared.Reply.{Reply}
 use Rattle.lookup.specs.declared.Reply.TheVariants.{Secret, Invalid}
 use Rattle.message.specs.declared.Direction.TheVariants.{Request, Response}
-use Rattle.message.specs.Layout.{number_at}
 use Rattle.message.specs.Reading.{checked}
-use Rattle.message.proofs.Again.{Checked, was_checked}
+use Rattle.message.proofs.Again.{was_checked}
 use Rattle.channel.specs.declared.Nonce.{Nonce}
 use Rattle.channel.specs.declared.NotStarted.{NotStarted}
 use Rattle.channel.specs.declared.Mixer.{Mixer}
@@ -22,7 +19,6 @@ use Rattle.channel.specs.declared.Answered.{Answered}
 use Rattle.channel.specs.declared.Proved.{Proved}
 use Rattle.channel.specs.declared.Open.{Open}
 use Rattle.channel.specs.declared.Ticket.{Ticket}
-use Rattle.channel.specs.declared.Refused.{Refused}
 use Rattle.channel.specs.Steps.{and_then, secret_or, settled, started, label_in, nonce_in, tag_in}
 use Rattle.channel.specs.Handshake.{ticket, answer_check, to_answered, answered, proof_of, prove_check, to_proved, proven, prove_output, open_mixer, open_fob, confirmation_tag, confirm_check, confirmed, confirm_output, finish_check, finished}
 use Rattle.runs.specs.declared.FobSide.{FobSide}
@@ -34,10 +30,10 @@ use Rattle.simulation.specs.declared.record.Event.TheVariants.{Offers, Reads, Pr
 use Rattle.simulation.specs.declared.record.Events.TheVariants.{Nothing, Two, Three}
 use Rattle.simulation.specs.declared.record.Outcome.{Outcome}
 use Rattle.simulation.specs.declared.record.Move.{Move}
-use Rattle.runs.specs.History.{offers, reads, proves, opens, sends, accepts, Done, after_answer, answer_at, after_prove, prove_at, after_confirm, confirm_at, after_finish, finish_at}
+use Rattle.runs.specs.History.{offers, proves, opens, sends, after_answer, answer_at, after_prove, prove_at, after_confirm, confirm_at, after_finish, finish_at}
 use Rattle.simulation.specs.Simulation.{event_in, events_in, Does}
 use Rattle.runs.specs.Unaltered.{Blocks}
-use Rattle.runs.proofs.Fields.{tag_12, Verifies, written-verifies}
+use Rattle.runs.proofs.Fields.{tag_12, written-verifies}
 
 module _ {W : Type 0} where
   -- a test that was to fail did fail, a check before another was passed, and a test that was to hold held

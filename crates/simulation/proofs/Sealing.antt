@@ -1,15 +1,15 @@
 -- What an accepted seal or unseal wrote and read is what the history says that it did.
-use Rattle.std.proofs.Common.{◌≡◌, ℕ, ◌+◌, ◌<◌, ◌≤◌, not, eqb, ltb, leb, List, [], ◌∷◌, length, take, drop, Ok, Err, Result, sym, refl, ap, ◌∙◌, arith}
+use Rattle.std.proofs.Common.{◌≡◌, ℕ, ◌+◌, ◌<◌, ◌≤◌, not, eqb, ltb, leb, List, [], ◌∷◌, length, take, drop, Ok, Result, sym, ap, ◌∙◌, arith}
 use Rattle.std.specs.Str.{bytes_eq}
 use Rattle.std.proofs.lemmas.Bool.{leb-false, ltb-false, eqb-true}
 use Rattle.fault.specs.declared.Fault.{Fault}
 use Rattle.keyed.proofs.Stream.{keeps_length}
 use Rattle.message.specs.Layout.{number_at}
 use Rattle.message.specs.Reading.{checked}
-use Rattle.message.proofs.Again.{Checked, was_checked}
+use Rattle.message.proofs.Again.{was_checked}
 use Rattle.channel.specs.declared.Open.{Open}
 use Rattle.channel.specs.Packets.{seals_at, data_in, tag_of, crypted, packet_tag, seal_check, seal_end, seal_output, unseal_check, unseal_end, unseal_output}
-use Rattle.runs.specs.History.{sends, accepts, seals, unseals, Done, sealed_by, unsealed_by}
+use Rattle.runs.specs.History.{sends, accepts, seals, unseals, sealed_by, unsealed_by}
 use Rattle.runs.specs.Unaltered.{Blocks}
 use Rattle.simulation.proofs.Calls.{past, held, after_check}
 use Rattle.runs.proofs.Fields.{tag_12, Packs, written-packs}

@@ -1,5 +1,5 @@
 -- What an accepted call tells is what the definition says.
-use Rattle.std.proofs.Common.{◌≡◌, ℕ, ◌+◌, List, length, take, Ok, Err, Result, sym, ap, ◌∙◌}
+use Rattle.std.proofs.Common.{◌≡◌, ℕ, ◌+◌, List, length, take, Ok, Err, sym, ap, ◌∙◌}
 use Rattle.lookup.specs.declared.Reply.{Reply}
 use Rattle.channel.specs.declared.Nonce.{Nonce}
 use Rattle.channel.specs.declared.NotStarted.{NotStarted}
@@ -18,8 +18,8 @@ use Rattle.runs.specs.declared.MixerSide.{MixerSide}
 use Rattle.runs.specs.declared.MixerSide.TheVariants.{Fresh as FreshMixer, Answered as AnsweredMixer}
 use Rattle.simulation.specs.declared.record.Outcome.{Outcome}
 use Rattle.simulation.specs.declared.record.Outcome.TheVariants.{Refused as WasRefused}
-use Rattle.simulation.specs.Outcomes.{Came, refused, sent, done, outcome_in, told, told_start, told_move, invite_came, answer_came, prove_came, confirm_came, finish_came, seal_came, unseal_came}
-use Rattle.simulation.proofs.Sealing.{Sealed, sealed_as}
+use Rattle.simulation.specs.Outcomes.{sent, done, outcome_in, told, told_start, told_move, invite_came, answer_came, prove_came, confirm_came, finish_came, seal_came, unseal_came}
+use Rattle.simulation.proofs.Sealing.{sealed_as}
 
 nonce : (c : Nonce) (n : List ℕ) → c.octets ≡ n → c ≡ record { octets = n }
 nonce c n a = ap (λ (v : List ℕ). record { octets = v }) a

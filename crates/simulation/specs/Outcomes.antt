@@ -3,7 +3,6 @@ use Rattle.std.specs.Prelude.{ℕ, ◌+◌, List, length, take, Ok, Err, vec_ite
 use Rattle.fault.specs.declared.Fault.{Fault}
 use Rattle.lookup.specs.declared.Reply.{Reply}
 use Rattle.channel.specs.declared.Role.TheVariants.{Fob as AtFob, Mixer as AtMixer}
-use Rattle.channel.specs.declared.Nonce.{Nonce}
 use Rattle.channel.specs.declared.Open.{Open}
 use Rattle.channel.specs.declared.NotStarted.{NotStarted}
 use Rattle.channel.specs.declared.Refused.{Refused}

@@ -1,5 +1,5 @@
 -- How the calls, the ends and the record of a simulation are read as those of a history.
-use Rattle.std.specs.Prelude.{◌≡◌, ℕ, List, [], ◌∷◌, ◌++◌, map, length, Ok, Err, vec_items, fold, Result, Vec}
+use Rattle.std.specs.Prelude.{◌≡◌, ℕ, List, [], ◌∷◌, ◌++◌, length, Ok, Err, vec_items, fold, Result, Vec}
 use Rattle.std.specs.declared.alloc.Global.{Global}
 use Rattle.simulation.specs.declared.record.Event.{Event as RecordedEvent}
 use Rattle.simulation.specs.declared.record.Event.TheVariants.{Offers, Reads, Proves, Opens, Sends, Accepts, Seals, Unseals}
@@ -8,7 +8,6 @@ use Rattle.simulation.specs.declared.record.Events.{Events}
 use Rattle.simulation.specs.declared.record.Events.TheVariants.{Nothing, One, Two, Three}
 use Rattle.simulation.specs.declared.record.Move.{Move}
 use Rattle.std.specs.declared.alloc.AllocError.{AllocError}
-use Rattle.lookup.specs.declared.Reply.{Reply}
 use Rattle.channel.specs.declared.Fob.{Fob}
 use Rattle.channel.specs.declared.Mixer.{Mixer}
 use Rattle.simulation.specs.declared.run.Call.{Call as MadeCall}

@@ -1,5 +1,5 @@
 -- Two ends that are ready for the payload get it through.
-use Rattle.std.proofs.Common.{ℕ, List, ◌∙◌, rules}
+use Rattle.std.proofs.Common.{ℕ, List, ◌∙◌}
 use Rattle.cipher.specs.Cipher.{E}
 use Rattle.runs.specs.Unaltered.{Blocks}
 use Rattle.sessions.proofs.Pairs.{ready_through}

@@ -1,5 +1,5 @@
 -- Each event comes before those that the log had.
-use Rattle.std.proofs.Common.{arith, rules}
+use Rattle.std.proofs.Common.{rules}
 use Rattle.simulation.proofs.Recorded.{one, two, three}
 use Rattle.simulation.proofs.record.enter.Goals as goal
 

@@ -1,5 +1,5 @@
 -- Each turn passes one payload more.
-use Rattle.std.proofs.Common.{◌≡◌, ℕ, List, [], length, replicate, sym, ◌∙◌, arith, rules}
+use Rattle.std.proofs.Common.{◌≡◌, ℕ, List, [], length, replicate, sym, ◌∙◌, arith}
 use Rattle.cipher.specs.Cipher.{E}
 use Rattle.runs.specs.Unaltered.{Blocks}
 use Rattle.std.proofs.lemmas.List.{get_or-replicate, length-replicate}

@@ -1,5 +1,5 @@
 -- Each turn passes one payload more.
-use Rattle.std.proofs.Common.{◌≡◌, ℕ, List, [], length, get_or, sym, ◌∙◌, arith, Bor, rules}
+use Rattle.std.proofs.Common.{◌≡◌, ℕ, List, [], length, get_or, sym, ◌∙◌, arith, Bor}
 use Rattle.cipher.specs.Cipher.{E}
 use Rattle.sessions.specs.Sessions.{held}
 use Rattle.runs.specs.Unaltered.{Blocks}

@@ -1,5 +1,5 @@
 -- Room in the log changes nothing, and what each step makes goes on from the histories so far.
-use Rattle.std.proofs.Common.{[], ◌∷◌, map, vec_items}
+use Rattle.std.proofs.Common.{[], map, vec_items}
 use Rattle.cipher.specs.Cipher.{E}
 use Rattle.simulation.specs.Simulation.{call_in, Makes}
 use Rattle.runs.specs.History.{lookups}
