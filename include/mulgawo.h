@@ -1,7 +1,7 @@
 /*
  * The calls of the secure channel that C firmware makes directly.
  *
- * Link target/staticlib/libfirmware.a, made by `rt staticlib firmware`. The code behind these calls is proved:
+ * Link target/staticlib/libfirmware.a, made by `c/library`. The code behind these calls is proved:
  * every call ends, on any octets, and answers what docs/PROTOCOL.md and docs/REFUSALS.md define.
  *
  * What no proof covers is the caller's debt:

@@ -29,7 +29,7 @@ fn run(rt: &HostRuntime) -> anyhow::Result<()> {
     let Tally { compared, wrong } = tally;
     println!(rt; "{compared} compared, {wrong} differ")?;
     if wrong != 0 {
-        return Err(anyhow!("a session differs"));
+        return Err(anyhow!("\"a session differs\""));
     }
     Ok(())
 }
@@ -70,7 +70,7 @@ pub(crate) fn report(
 pub(crate) fn octets(rt: &HostRuntime, word: &[u8]) -> anyhow::Result<Vec<u8>> {
     match text::octets(rt.alloc(), word)? {
         Some(octets) => Ok(octets),
-        None => Err(anyhow!("a word of a session is not hexadecimal")),
+        None => Err(anyhow!("\"a word of a session is not hexadecimal\"")),
     }
 }
 
@@ -79,6 +79,6 @@ pub(crate) fn fixed<const N: usize>(rt: &HostRuntime, word: &[u8]) -> anyhow::Re
     let octets = octets(rt, word)?;
     match <[u8; N]>::try_from(octets.as_slice()) {
         Ok(octets) => Ok(octets),
-        Err(_) => Err(anyhow!("a word of a session has another length")),
+        Err(_) => Err(anyhow!("\"a word of a session has another length\"")),
     }
 }

@@ -26,7 +26,7 @@ impl Suite {
         } else if name == b"speck".as_slice() {
             Ok(Suite::Speck)
         } else {
-            Err(anyhow!("the cipher of a session is another"))
+            Err(anyhow!("\"the cipher of a session is another\""))
         }
     }
 }
@@ -99,7 +99,7 @@ fn own_key(rt: &HostRuntime, sort: &[u8], word: &[u8]) -> anyhow::Result<OwnKey>
 fn decimal(word: &[u8]) -> anyhow::Result<u32> {
     match value_of(word) {
         Some(value) => Ok(value),
-        None => Err(anyhow!("a number of a session is not a number")),
+        None => Err(anyhow!("\"a number of a session is not a number\"")),
     }
 }
 
@@ -232,7 +232,7 @@ impl Session {
         } else if name == b"IV".as_slice() {
             self.keys.counter = u128::from_be_bytes(key);
         } else {
-            return Err(anyhow!("a line of a session has another name"));
+            return Err(anyhow!("\"a line of a session has another name\""));
         }
         Ok(())
     }
@@ -250,7 +250,7 @@ impl Session {
             self.vfy_res = octets;
         } else {
             let Some(packet) = self.packets.last_mut() else {
-                return Err(anyhow!("a packet of a session has no payload"));
+                return Err(anyhow!("\"a packet of a session has no payload\""));
             };
             packet.line(name, octets)?;
         }
@@ -345,7 +345,7 @@ impl Packet {
         } else if name == b"counter".as_slice() {
             self.counter = u128::from_be_bytes(part::<16>(&octets, 0)?);
         } else {
-            return Err(anyhow!("a line of a session has another name"));
+            return Err(anyhow!("\"a line of a session has another name\""));
         }
         Ok(())
     }
@@ -360,5 +360,5 @@ fn part<const N: usize>(message: &[u8], place: usize) -> anyhow::Result<[u8; N]>
             }
         }
     }
-    Err(anyhow!("a message of a session is too short"))
+    Err(anyhow!("\"a message of a session is too short\""))
 }

@@ -38,8 +38,8 @@ pub(crate) fn read(rt: &HostRuntime, text: &[u8]) -> anyhow::Result<Vec<Numbered
     } = script;
     match unreadable {
         0 => Ok(statements),
-        1 => Err(anyhow!("one line was not understood: no call was made")),
-        _ => Err(anyhow!("some lines were not understood: no call was made")),
+        1 => Err(anyhow!("\"one line was not understood: no call was made\"")),
+        _ => Err(anyhow!("\"some lines were not understood: no call was made\"")),
     }
 }
 

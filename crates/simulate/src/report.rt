@@ -49,7 +49,7 @@ impl Named {
 pub(crate) fn stopped(rt: &HostRuntime, line: u64, trouble: Trouble) -> anyhow::Result<()> {
     let words = trouble.words();
     println!(rt; "line {line}: {words}")?;
-    Err(anyhow!("the script cannot go on"))
+    Err(anyhow!("\"the script cannot go on\""))
 }
 
 /// The same of a call.
@@ -62,7 +62,7 @@ pub(crate) fn stopped_at(rt: &HostRuntime, named: Named, trouble: Trouble) -> an
     } = named;
     let words = trouble.words();
     println!(rt; "line {line}: {end} {call}: {words}")?;
-    Err(anyhow!("the script cannot go on"))
+    Err(anyhow!("\"the script cannot go on\""))
 }
 
 /// Shows what a call came to and what it did, of which the log tells after its first `before` entries. A message that the call

@@ -61,7 +61,7 @@ fn check_order(rt: &HostRuntime, script: &[Numbered]) -> anyhow::Result<()> {
     for Numbered { line, statement } in script {
         if called && sets_up(statement) {
             println!(rt; "line {line}: cipher, identities and keys stand before the first call")?;
-            return Err(anyhow!("a statement stands in the wrong place: no call was made"));
+            return Err(anyhow!("\"a statement stands in the wrong place: no call was made\""));
         }
         called = called || calls(statement);
     }
@@ -122,14 +122,14 @@ fn key_of<'a>(
     }
     let name = name_of(end);
     println!(rt; "the {name} has no key")?;
-    Err(anyhow!("an end has no key: no call was made"))
+    Err(anyhow!("\"an end has no key: no call was made\""))
 }
 
 /// Tells that a key cannot be made.
 fn refuse_key(rt: &HostRuntime, line: u64, end: Who, fault: Fault) -> anyhow::Result<()> {
     let name = name_of(end);
     println!(rt; "line {line}: key {name}: {fault}")?;
-    Err(anyhow!("an own key cannot be made: no call was made"))
+    Err(anyhow!("\"an own key cannot be made: no call was made\""))
 }
 
 /// Makes the fob's key, whichever sort it is, and goes on with the mixer's.

@@ -42,7 +42,7 @@ fn run(rt: &HostRuntime) -> anyhow::Result<()> {
     let Tally { compared, wrong } = tally;
     println!(rt; "{compared} compared, {wrong} differ")?;
     if wrong != 0 {
-        return Err(anyhow!("a figure differs"));
+        return Err(anyhow!("\"a figure differs\""));
     }
     Ok(())
 }
@@ -81,7 +81,7 @@ pub(crate) fn report(rt: &HostRuntime, agrees: bool, tally: &mut Tally) -> anyho
 pub(crate) fn octets(rt: &HostRuntime, word: &[u8]) -> anyhow::Result<Vec<u8>> {
     match text::octets(rt.alloc(), word)? {
         Some(octets) => Ok(octets),
-        None => Err(anyhow!("a word of a figure is not hexadecimal")),
+        None => Err(anyhow!("\"a word of a figure is not hexadecimal\"")),
     }
 }
 
@@ -90,7 +90,7 @@ pub(crate) fn fixed<const N: usize>(rt: &HostRuntime, word: &[u8]) -> anyhow::Re
     let octets = octets(rt, word)?;
     match <[u8; N]>::try_from(octets.as_slice()) {
         Ok(octets) => Ok(octets),
-        Err(_) => Err(anyhow!("a word of a figure has another length")),
+        Err(_) => Err(anyhow!("\"a word of a figure has another length\"")),
     }
 }
 

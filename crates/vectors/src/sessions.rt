@@ -63,7 +63,7 @@ fn own_key(rt: &HostRuntime, sort: &[u8], word: &[u8]) -> anyhow::Result<OwnKey>
     }
     match decimal(word) {
         Some(d) => Ok(OwnKey::Bench(d)),
-        None => Err(anyhow!("a private number is not a number")),
+        None => Err(anyhow!("\"a private number is not a number\"")),
     }
 }
 
@@ -288,5 +288,5 @@ fn part<const N: usize>(message: &[u8], place: usize) -> anyhow::Result<[u8; N]>
             }
         }
     }
-    Err(anyhow!("a message of a session is too short"))
+    Err(anyhow!("\"a message of a session is too short\""))
 }
