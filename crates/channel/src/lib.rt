@@ -99,7 +99,8 @@ struct Epoch {
     number: u32,
 }
 
-/// An open end. It cannot be let go: only closing ends it.
+/// An open end.
+#[derive(Drop)]
 pub struct Open<C, K> {
     role: Role,
     key: K,

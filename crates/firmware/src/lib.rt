@@ -1,4 +1,5 @@
-//! What the mixer's C firmware calls: total functions on numbers and octet buffers. The crate `firmware_c` exports them.
+//! What the mixer's C firmware calls: total functions on numbers and octet buffers. C links them through the
+//! crate `firmware_c`: a library exports nothing.
 #![tactic(auto)]
 
 ghost use Rattle.std.specs.Prelude.{◌≡◌, ◌≤◌, length, drop};
@@ -36,7 +37,8 @@ fn refusal(fault: Fault) -> Verdict
 }
 
 /// Whether the octets are a message of the awaited kind under this protocol identifier, or why not.
-pub fn mulgawo_check(awaited: u32, pid: u32, octets: &[u8]) -> Verdict
+#[unsafe(no_mangle)]
+pub extern "C" fn mulgawo_check(awaited: u32, pid: u32, octets: &[u8]) -> Verdict
     ensures value { result ≡ verdict (checked awaited pid octets.now) }
 {
     match message::check(awaited, pid, octets) {
@@ -67,7 +69,8 @@ fn tag_within(key: &[u8], data: &[u8], workspace: &mut [u8], output: &mut [u8]) 
 
 /// Writes the tag of the data under AES at the start of the output. Answers 0, or 1 for a key that has not 16 octets, a
 /// workspace under 256 or an output under 12.
-pub fn mulgawo_tag(
+#[unsafe(no_mangle)]
+pub extern "C" fn mulgawo_tag(
     key: &[u8],
     data: &[u8],
     workspace: &mut [u8],
@@ -118,7 +121,8 @@ fn keystream_within(
 
 /// Writes the data under the keystream of AES from the counter on at the start of the output. Answers 0, or 1 for a key or a
 /// counter that has not 16 octets, a workspace under 256 or an output under the data.
-pub fn mulgawo_keystream(
+#[unsafe(no_mangle)]
+pub extern "C" fn mulgawo_keystream(
     key: &[u8],
     counter: &[u8],
     data: &[u8],
