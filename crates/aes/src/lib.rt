@@ -61,7 +61,7 @@ impl BlockCipher for Aes {
         if short(workspace) {
             return *block;
         }
-        rounds::encrypt(&workspace[0..SIZE], block)
+        rounds::encrypt(workspace.first_chunk::<SIZE>().unwrap(), block)
     }
 }
 

@@ -6,9 +6,8 @@ ghost use Rattle.aes.specs.View.{state_of};
 use crate::state::{Row, add_round_key, load, mix_columns, shift_rows, sub_bytes, unload};
 
 /// Round key `n` of a schedule.
-fn round_key(schedule: &[u8], n: usize) -> [Row; 4]
-    requires schedule_len { length schedule.now ≡ 176 }
-    requires n_bound { n ≤ 10 }
+fn round_key(schedule: &[u8; 176], n: usize) -> [Row; 4]
+    requires { n ≤ 10 }
     ensures value { state_of result ≡ round_key schedule.now n }
 {
     load(&schedule[16 * n..16 * n + 16])
@@ -27,11 +26,11 @@ fn last_round(s: [Row; 4], k: [Row; 4]) -> [Row; 4]
 }
 
 /// A block under a schedule of eleven round keys.
-pub(crate) fn encrypt(schedule: &[u8], block: &[u8; 16]) -> [u8; 16]
-    requires { length schedule.now ≡ 176 }
+pub(crate) fn encrypt(schedule: &[u8; 176], block: &[u8; 16]) -> [u8; 16]
     ensures value { result ≡ cipher schedule.now block.now }
 {
     let mut s = add_round_key(load(block), round_key(schedule, 0));
+    // By number: the standard gives round n round key n, and chunks of the schedule, in the same order, are no plainer.
     for n in 0..9 {
         let next = full_round(s, round_key(schedule, n + 1));
         s = next;

@@ -78,6 +78,7 @@ pub(crate) fn expand(key: &[u8; 16], schedule: &mut [u8])
     requires { length schedule.old ≡ 176 }
     ensures output { schedule.new ≡ key_expansion key.now }
 {
+    // By number: a word is worked out of those before it, which `chunks_exact_mut` would lend away, and of its number.
     for i in 0..44 {
         let word = next_word(key, &schedule[0..4 * i], i);
         schedule[4 * i..4 * i + 4].copy_from_slice(&word);

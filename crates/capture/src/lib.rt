@@ -3,11 +3,16 @@
 //! An empty line, and one whose first word begins with `#`, holds no message.
 #![tactic(auto)]
 
-ghost use Rattle.std.specs.Prelude.{◌≡◌, IfOk};
+ghost use Rattle.std.specs.Prelude.{◌≡◌, Some};
+ghost use Rattle.std.specs.Option.{option_map};
+ghost use Rattle.text.specs.declared.ParseError.TheVariants.{Unreadable};
+ghost use Rattle.text.specs.Reading.{Reads};
 ghost use Rattle.capture.specs.Lines.{viewed, meaning};
+ghost use Rattle.capture.specs.Expected.{words_of};
 
-use std::alloc::{AllocError, Global};
-use text::{number, split_word};
+use std::alloc::Global;
+use std::fmt;
+use text::{ParseError, number, octets, split_word};
 
 /// A captured message.
 #[derive(Drop)]
@@ -30,38 +35,48 @@ pub enum Problem {
     More,
 }
 
-/// What a line holds.
-#[derive(Drop)]
-pub enum Line {
-    Nothing,
-    Message(Captured),
-    Unreadable(Problem),
+impl fmt::Display for Problem {
+    ghost output = { λ p. Some (words_of p) };
+
+    fn fmt<W: fmt::Write>(&self, f: &mut fmt::Formatter<W>) -> fmt::Result {
+        f.write_str(match self {
+            Problem::Kind => "the first word is the awaited kind, one to nine decimal digits",
+            Problem::Protocol =>
+                "the second word is the protocol identifier, one to nine decimal digits",
+            Problem::Octets =>
+                "the third word is the octets, pairs of hexadecimal digits, or - for none",
+            Problem::More => "a line has three words",
+        })
+    }
 }
 
-/// What a line of captured text holds; an error only for want of memory.
-pub fn parse_line(heap: Global, text: &[u8]) -> Result<Line, AllocError>
-    ensures value { IfOk result (λ l. viewed l ≡ meaning text.now) }
+// `script` has the like. Tried as one `impl<P> From<P>` in `text`: it conflicts with the one from `AllocError` there.
+impl From<Problem> for ParseError<Problem> {
+    ghost from_gives = { λ p r. r ≡ Unreadable p };
+
+    fn from(problem: Problem) -> ParseError<Problem> {
+        ParseError::Unreadable(problem)
+    }
+}
+
+/// The message that a line of captured text holds, if it holds one.
+pub fn parse_line(heap: Global, text: &[u8]) -> Result<Option<Captured>, ParseError<Problem>>
+    ensures value { Reads (option_map viewed) result (meaning text.now) }
 {
     let (first, rest) = split_word(text);
-    if first.len() == 0 || first[0] == 35 {
-        return Ok(Line::Nothing);
+    if matches!(first.first(), None | Some(b'#')) {
+        return Ok(None);
     }
-    let Some(awaited) = number(first) else {
-        return Ok(Line::Unreadable(Problem::Kind));
-    };
+    let awaited = number(first).ok_or(Problem::Kind)?;
     let (second, rest) = split_word(rest);
-    let Some(pid) = number(second) else {
-        return Ok(Line::Unreadable(Problem::Protocol));
-    };
+    let pid = number(second).ok_or(Problem::Protocol)?;
     let (third, rest) = split_word(rest);
-    let Some(octets) = text::octets(heap, third)? else {
-        return Ok(Line::Unreadable(Problem::Octets));
-    };
+    let octets = octets(heap, third)?.ok_or(Problem::Octets)?;
     let (fourth, _) = split_word(rest);
-    if fourth.len() != 0 {
-        return Ok(Line::Unreadable(Problem::More));
+    if !fourth.is_empty() {
+        return Err(Problem::More.into());
     }
-    Ok(Line::Message(Captured {
+    Ok(Some(Captured {
         awaited,
         pid,
         octets,

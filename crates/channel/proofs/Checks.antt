@@ -6,8 +6,7 @@ use Rattle.std.proofs.lemmas.Bool.{le-ltb, eq-eqb, and_from, cond-false, cond-tr
 use Rattle.fault.specs.declared.Fault.{Fault}
 use Rattle.fault.specs.declared.HostCause.TheVariants.{Size}
 use Rattle.fault.specs.Faults.{host_fault}
-use Rattle.lookup.specs.declared.Reply.{Reply}
-use Rattle.lookup.specs.declared.Reply.TheVariants.{Secret}
+use Rattle.lookup.specs.Replies.{Reply}
 use Rattle.channel.specs.Steps.{sized, unless, and_then, secret_or, written}
 
 pub sized-passes : {W : Type 0} (n : ℕ) (b : List ℕ) (r : Result W Fault) → n ≤ length b → sized n b r ≡ r
@@ -22,7 +21,7 @@ unless-refuses t f r e = cond-true t (Err f) r e
 pub and_then-passes : {V W : Type 0} (c : Result V Fault) (v : V) (r : Result W Fault) → c ≡ Ok v → and_then c r ≡ r
 and_then-passes c v r e = ap (λ x. and_then x r) e
 
-pub secret_or-passes : {W : Type 0} (y : Reply) (z : List ℕ) (f : List ℕ → Result W Fault) → y ≡ Secret z → secret_or y f ≡ f z
+pub secret_or-passes : {W : Type 0} (y : Reply) (z : List ℕ) (f : List ℕ → Result W Fault) → y ≡ Ok z → secret_or y f ≡ f z
 secret_or-passes y z f e = ap (λ x. secret_or x f) e
 
 bytes_eq-self : (a : List ℕ) → bytes_eq a a ≡ true
@@ -42,3 +41,8 @@ written-take {w = w} n f o e h = ap (λ x. take n (written n f x o)) e ∙ take_
 pub after_check : {W : Type 0} (v : Result (Unit {0}) Fault) (r : Result W Fault) {w : W} → and_then v r ≡ Ok w → (v ≡ Ok tt) × (r ≡ Ok w)
 after_check (Ok u) r e = (refl, e)
 after_check (Err f) r e = let z : ◌≡◌ {A = ℕ} 0 1 = cc in absurd (omega arith)
+
+-- what was accepted with the secret of a reply had one
+pub with_secret : {W : Type 0} (y : Reply) (f : List ℕ → Result W Fault) {w : W} → secret_or y f ≡ Ok w → (z : List ℕ) × (f z ≡ Ok w)
+with_secret (Ok z) f e = (z, e)
+with_secret (Err x) f e = let z : ◌≡◌ {A = ℕ} 0 1 = cc in absurd (omega arith)

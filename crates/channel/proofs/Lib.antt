@@ -1,4 +1,3 @@
 pub mod Checks
 mod Outcomes
 mod Packed
-mod Accepted

@@ -6,16 +6,15 @@ use Rattle.fault.specs.declared.Fault.{Fault}
 use Rattle.fault.specs.declared.HandshakeCause.TheVariants.{Tag}
 use Rattle.fault.specs.Faults.{handshake_fault}
 use Rattle.keyed.specs.declared.derivation.SessionKeys.{SessionKeys}
-use Rattle.keyed.specs.declared.confirm.Confirmation.{Confirmation}
-use Rattle.keyed.specs.declared.confirm.Confirmation.TheVariants.{Fob as OfFob, Mixer as OfMixer}
+use Rattle.ends.specs.declared.Role.{Role}
 use Rattle.keyed.specs.Derivation.{derived}
 use Rattle.keyed.specs.Strings.{confirmation}
 use Rattle.keyed.specs.Xcbc.{tag}
-use Rattle.lookup.specs.declared.Reply.{Reply}
+use Rattle.lookup.specs.Replies.{Reply}
 use Rattle.message.specs.Reading.{checked}
 use Rattle.message.specs.Writing.{octets_of, act, verify}
 use Rattle.channel.specs.declared.Nonce.{Nonce}
-use Rattle.channel.specs.declared.Role.TheVariants.{Fob as FobRole, Mixer as MixerRole}
+use Rattle.ends.specs.declared.Role.TheVariants.{Fob as FobRole, Mixer as MixerRole}
 use Rattle.channel.specs.declared.Fob.{Fob}
 use Rattle.channel.specs.declared.Invited.{Invited}
 use Rattle.channel.specs.declared.Proved.{Proved}
@@ -76,7 +75,7 @@ module _ {C K : Type 0} (pid : ℕ) (e : List ℕ → List ℕ → List ℕ) (ow
   proof_of i m s = record {
     keys = s;
     tag = tag e s.master
-        (confirmation pid OfFob i.identities.fob i.identities.mixer (own i.key) (label_in m) i.nonce.octets (nonce_in m));
+        (confirmation pid FobRole i.identities.fob i.identities.mixer (own i.key) (label_in m) i.nonce.octets (nonce_in m));
   }
 
   abbrev pub prove_check : Invited C K → (message workspace output : List ℕ) → Result Proof Fault
@@ -112,12 +111,12 @@ open_fob p = record { role = FobRole; key = p.session.key; epoch = record { keys
 
 module _ {K : Type 0} (pid : ℕ) where
   -- the string of the fob's or the mixer's confirmation
-  abbrev pub confirmation_of : Confirmation → Session K → List ℕ
+  abbrev pub confirmation_of : Role → Session K → List ℕ
   confirmation_of which s =
       confirmation pid which s.identities.fob s.identities.mixer s.labels.fob s.labels.mixer s.nonces.fob s.nonces.mixer
 
   -- and its tag under MK
-  abbrev pub confirmation_tag : (List ℕ → List ℕ → List ℕ) → Confirmation → Session K → List ℕ
+  abbrev pub confirmation_tag : (List ℕ → List ℕ → List ℕ) → Role → Session K → List ℕ
   confirmation_tag e which s = tag e s.keys.master (confirmation_of which s)
 
 module _ {C K : Type 0} (pid : ℕ) (e : List ℕ → List ℕ → List ℕ) where
@@ -125,7 +124,7 @@ module _ {C K : Type 0} (pid : ℕ) (e : List ℕ → List ℕ → List ℕ) whe
   abbrev pub confirm_check : Answered C K → (message workspace output : List ℕ) → Result (List ℕ) Fault
   confirm_check a m w o =
       sized 256 w (sized 15 o (and_then (checked 3 pid m)
-      (cond (bytes_eq (confirmation_tag pid e OfFob a.session) (tag_in m)) (Ok (confirmation_tag pid e OfMixer a.session)) (Err (handshake_fault Tag 3)))))
+      (cond (bytes_eq (confirmation_tag pid e FobRole a.session) (tag_in m)) (Ok (confirmation_tag pid e MixerRole a.session)) (Err (handshake_fault Tag 3)))))
 
   abbrev pub confirmed : Answered C K → (message workspace output : List ℕ) → Result (Open C K × Ticket) (Refused (Answered C K))
   confirmed a m w o = settled a (λ t. (open_mixer a, ticket)) (confirm_check a m w o)
@@ -137,7 +136,7 @@ module _ {C K : Type 0} (pid : ℕ) (e : List ℕ → List ℕ → List ℕ) whe
   abbrev pub finish_check : Proved C K → (message workspace : List ℕ) → Result (Unit {0}) Fault
   finish_check p m w =
       sized 256 w (and_then (checked 4 pid m)
-      (cond (bytes_eq (confirmation_tag pid e OfMixer p.session) (tag_in m)) (Ok tt) (Err (handshake_fault Tag 3))))
+      (cond (bytes_eq (confirmation_tag pid e MixerRole p.session) (tag_in m)) (Ok tt) (Err (handshake_fault Tag 3))))
 
   abbrev pub finished : Proved C K → (message workspace : List ℕ) → Result (Open C K × Ticket) (Refused (Proved C K))
   finished p m w = settled p (λ u. (open_fob p, ticket)) (finish_check p m w)

@@ -2,7 +2,7 @@
 use Rattle.std.specs.Prelude.{◌≡◌, ℕ, ◌+◌, ◌/◌, ◌%◌, ◌^◌, ◌<◌, ◌≤◌, true, List, length, Ok, Err}
 use Rattle.std.specs.Str.{bytes_eq}
 use Rattle.fault.specs.declared.Fault.{Fault}
-use Rattle.lookup.specs.declared.Reply.{Reply}
+use Rattle.lookup.specs.Replies.{Reply}
 use Rattle.message.specs.Layout.{number_at}
 use Rattle.message.specs.Reading.{checked}
 use Rattle.channel.specs.declared.Nonce.{Nonce}

@@ -11,8 +11,8 @@ use Rattle.keyed.specs.Xcbc.{tag}
 use Rattle.message.specs.Layout.{number_at}
 use Rattle.message.specs.Reading.{checked}
 use Rattle.message.specs.Writing.{octets_of, enc}
-use Rattle.channel.specs.declared.Role.{Role}
-use Rattle.channel.specs.declared.Role.TheVariants.{Fob, Mixer}
+use Rattle.ends.specs.declared.Role.{Role}
+use Rattle.ends.specs.declared.Role.TheVariants.{Fob, Mixer}
 use Rattle.channel.specs.declared.Epoch.{Epoch}
 use Rattle.channel.specs.declared.Open.{Open}
 use Rattle.channel.specs.Steps.{sized, unless, and_then, written}

@@ -4,8 +4,7 @@ use Rattle.fault.specs.declared.Fault.{Fault}
 use Rattle.fault.specs.declared.HostCause.TheVariants.{Size}
 use Rattle.fault.specs.declared.HandshakeCause.TheVariants.{Label}
 use Rattle.fault.specs.Faults.{host_fault, handshake_fault}
-use Rattle.lookup.specs.declared.Reply.{Reply}
-use Rattle.lookup.specs.declared.Reply.TheVariants.{Secret, Invalid}
+use Rattle.lookup.specs.Replies.{Reply}
 use Rattle.channel.specs.declared.Nonce.{Nonce}
 use Rattle.channel.specs.declared.NotStarted.{NotStarted}
 use Rattle.channel.specs.declared.Refused.{Refused}
@@ -25,8 +24,8 @@ and_then (Err f) r = Err f
 
 -- the secret of a reply; an invalid label is refused at its place
 abbrev pub secret_or : {W : Type 0} → Reply → (List ℕ → Result W Fault) → Result W Fault
-secret_or (Secret z) f = f z
-secret_or Invalid f = Err (handshake_fault Label 3)
+secret_or (Ok z) f = f z
+secret_or (Err x) f = Err (handshake_fault Label 3)
 
 -- an accepted call moves the end on; a refused one hands the same end back
 abbrev pub settled : {E F W : Type 0} → E → (W → F) → Result W Fault → Result F (Refused E)

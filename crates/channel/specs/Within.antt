@@ -7,9 +7,9 @@ use Rattle.fault.specs.declared.HandshakeCause.TheVariants.{Tag as HandshakeTag}
 use Rattle.fault.specs.declared.ChannelCause.TheVariants.{Stale, Ahead, Tag}
 use Rattle.fault.specs.Faults.{host_fault, handshake_fault, channel_fault}
 use Rattle.keyed.specs.declared.derivation.SessionKeys.{SessionKeys}
-use Rattle.keyed.specs.declared.confirm.Confirmation.TheVariants.{Fob as OfFob, Mixer as OfMixer}
+use Rattle.ends.specs.declared.Role.TheVariants.{Fob as FobRole, Mixer as MixerRole}
 use Rattle.keyed.specs.Derivation.{derived}
-use Rattle.lookup.specs.declared.Reply.{Reply}
+use Rattle.lookup.specs.Replies.{Reply}
 use Rattle.message.specs.Layout.{number_at}
 use Rattle.message.specs.Reading.{checked}
 use Rattle.channel.specs.declared.Nonce.{Nonce}
@@ -43,14 +43,14 @@ module _ {C K : Type 0} (pid : ℕ) (e : List ℕ → List ℕ → List ℕ) whe
   abbrev pub confirm_within : Answered C K → (message output : List ℕ) → Result (List ℕ) Fault
   confirm_within a m o =
       sized 15 o (and_then (checked 3 pid m)
-      (cond (bytes_eq (confirmation_tag pid e OfFob a.session) (tag_in m)) (Ok (confirmation_tag pid e OfMixer a.session))
+      (cond (bytes_eq (confirmation_tag pid e FobRole a.session) (tag_in m)) (Ok (confirmation_tag pid e MixerRole a.session))
       (Err (handshake_fault HandshakeTag 3))))
 
   -- finish, in a workspace that is large enough
   abbrev pub finish_within : Proved C K → (message : List ℕ) → Result (Unit {0}) Fault
   finish_within p m =
       and_then (checked 4 pid m)
-      (cond (bytes_eq (confirmation_tag pid e OfMixer p.session) (tag_in m)) (Ok tt) (Err (handshake_fault HandshakeTag 3)))
+      (cond (bytes_eq (confirmation_tag pid e MixerRole p.session) (tag_in m)) (Ok tt) (Err (handshake_fault HandshakeTag 3)))
 
 -- seal, in a workspace that is large enough
 abbrev pub seal_within : {C K : Type 0} → Open C K → (payload output : List ℕ) → Result ℕ Fault

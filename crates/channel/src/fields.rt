@@ -4,42 +4,59 @@ ghost use Rattle.std.specs.Str.{bytes_eq};
 ghost use Rattle.cipher.specs.Cipher.{E};
 ghost use Rattle.channel.specs.Handshake.{confirmation_tag};
 
-use crate::Session;
+use crate::{Epoch, Open, Role, Session};
 use cipher::BlockCipher;
-use keyed::{Confirmation, confirmation_matches, confirmation_tag};
+use keyed::Told;
+use std::marker::PhantomData;
 
 /// The `N` octets from `at` on.
 pub(crate) fn cut<const N: usize>(octets: &[u8], at: usize) -> [u8; N]
     requires { at + N ≤ length octets.now }
     ensures value { result ≡ take N (drop at octets.now) }
 {
-    match <[u8; N]>::try_from(&octets[at..at + N]) {
-        Ok(part) => part,
-        Err(_) => [0; N],
-    }
+    <[u8; N]>::try_from(&octets[at..at + N]).unwrap()
 }
 
 impl<K> Session<K> {
+    /// The open end that a handshake came to.
+    pub(crate) fn open<C>(self, role: Role, cipher: PhantomData<C>) -> Open<C, K>
+        ensures end { result ≡ record { role = role; key = self.key; epoch = record { keys = self.keys; number = 0 }; cipher = cipher } }
+    {
+        let Session { key, keys, .. } = self;
+        Open {
+            role,
+            key,
+            epoch: Epoch { keys, number: 0 },
+            cipher,
+        }
+    }
+
+    /// What both ends told each other.
+    fn told(&self) -> Told<'_>
+        ensures identities { result.identities.now ≡ self.now.identities }
+        ensures labels { result.labels.now ≡ self.now.labels }
+        ensures nonces { result.nonces.now ≡ self.now.nonces }
+    {
+        Told {
+            identities: &self.identities,
+            labels: &self.labels,
+            nonces: &self.nonces,
+        }
+    }
+
     /// The tag by which an end confirms.
-    pub(crate) fn tag<C: BlockCipher>(&self, which: Confirmation, workspace: &mut [u8]) -> [u8; 12]
+    pub(crate) fn tag<C: BlockCipher>(&self, which: Role, workspace: &mut [u8]) -> [u8; 12]
         requires { 256 ≤ length workspace.old }
         ensures value { result ≡ confirmation_tag C.BlockCipher.protocol (E C.BlockCipher.schedule C.BlockCipher.worked) which self.now }
         ensures workspace { drop 256 workspace.new ≡ drop 256 workspace.old }
     {
-        let Session {
-            identities,
-            labels,
-            nonces,
-            keys,
-            ..
-        } = self;
-        confirmation_tag::<C>(which, &keys.master, identities, labels, nonces, workspace)
+        self.told().tag::<C>(which, &self.keys.master, workspace)
     }
 
     /// Whether `octets` are the tag by which an end confirms.
     pub(crate) fn tag_matches<C: BlockCipher>(
         &self,
-        which: Confirmation,
+        which: Role,
         octets: &[u8],
         workspace: &mut [u8],
     ) -> bool
@@ -47,21 +64,7 @@ impl<K> Session<K> {
         ensures value { result ≡ bytes_eq (confirmation_tag C.BlockCipher.protocol (E C.BlockCipher.schedule C.BlockCipher.worked) which self.now) octets.now }
         ensures workspace { drop 256 workspace.new ≡ drop 256 workspace.old }
     {
-        let Session {
-            identities,
-            labels,
-            nonces,
-            keys,
-            ..
-        } = self;
-        confirmation_matches::<C>(
-            which,
-            &keys.master,
-            identities,
-            labels,
-            nonces,
-            octets,
-            workspace,
-        )
+        self.told()
+            .tag_matches::<C>(which, &self.keys.master, octets, workspace)
     }
 }

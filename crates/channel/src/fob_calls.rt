@@ -8,14 +8,12 @@ ghost use Rattle.channel.specs.Handshake.{invited, invite_output, proof_of, prov
 ghost use Rattle.channel.specs.Within.{prove_within, finish_within};
 
 use crate::fields::cut;
-use crate::{
-    Epoch, Fob, Invited, Nonce, NotStarted, Open, Proof, Proved, Refused, Role, Session, Ticket,
-};
+use crate::{Fob, Invited, Nonce, NotStarted, Open, Proof, Proved, Refused, Role, Session, Ticket};
 use cipher::{BlockCipher, Guard, WORKSPACE};
 use fault::{Fault, HandshakeCause, HostCause};
-use keyed::{Confirmation, Identities, Labels, Nonces, confirmation_tag, derive};
-use lookup::{KeyLookup, Reply};
-use message::{Direction, write_act, write_verify};
+use keyed::{Identities, Labels, Nonces, Told, derive};
+use lookup::KeyLookup;
+use message::{Direction, Kind, VERIFY, write_act, write_verify};
 use std::marker::PhantomData;
 
 impl<C: BlockCipher> Fob<C> {
@@ -99,7 +97,7 @@ impl<C: BlockCipher, K: KeyLookup> Invited<C, K> {
         ensures form { OnOk result ((40 ≤ length message.now) × (15 ≤ length output.now)) }
     {
         if workspace.len() < WORKSPACE {
-            return Err(Fault::host(HostCause::Size));
+            return Err(HostCause::Size.into());
         }
         let guard = Guard(workspace);
         self.check_within(message, guard.0, output)
@@ -117,14 +115,14 @@ impl<C: BlockCipher, K: KeyLookup> Invited<C, K> {
         ensures workspace { drop 256 workspace.new ≡ drop 256 workspace.old }
         ensures form { OnOk result ((40 ≤ length message.now) × (15 ≤ length output.now)) }
     {
-        if output.len() < 15 {
-            return Err(Fault::host(HostCause::Size));
+        if output.len() < VERIFY {
+            return Err(HostCause::Size.into());
         }
-        message::check(2, u32::from(C::pid()), message)?;
-        match self.key.reply(&cut(message, 3)) {
-            Reply::Invalid => Err(Fault::handshake(HandshakeCause::Label, 3)),
-            Reply::Secret(secret) => Ok(self.proof(message, &secret, workspace)),
-        }
+        Kind::Act(Direction::Response).check(C::pid(), message)?;
+        let Ok(secret) = self.key.reply(&cut(message, 3)) else {
+            return Err(Fault::handshake(HandshakeCause::Label, 3));
+        };
+        Ok(self.proof(message, &secret, workspace))
     }
 
     /// The labels of both ends.
@@ -157,12 +155,15 @@ impl<C: BlockCipher, K: KeyLookup> Invited<C, K> {
         ensures value { result ≡ proof_of C.BlockCipher.protocol (E C.BlockCipher.schedule C.BlockCipher.worked) K.KeyLookup.own K.KeyLookup.replies self.now message.now (derived (E C.BlockCipher.schedule C.BlockCipher.worked) self.now.nonce.octets (nonce_in message.now) self.now.identities.fob self.now.identities.mixer secret.now) }
         ensures workspace { drop 256 workspace.new ≡ drop 256 workspace.old }
     {
-        let ids = &self.identities;
         let labels = self.labels(message);
         let nonces = self.nonces(message);
-        let keys = derive::<C>(ids, &nonces, secret, workspace);
-        let fob = Confirmation::Fob;
-        let tag = confirmation_tag::<C>(fob, &keys.master, ids, &labels, &nonces, workspace);
+        let keys = derive::<C>(&self.identities, &nonces, secret, workspace);
+        let told = Told {
+            identities: &self.identities,
+            labels: &labels,
+            nonces: &nonces,
+        };
+        let tag = told.tag::<C>(Role::Fob, &keys.master, workspace);
         Proof { keys, tag }
     }
 
@@ -216,7 +217,7 @@ impl<C: BlockCipher, K: KeyLookup> Proved<C, K> {
         ensures workspace { workspace.new ≡ left workspace.old }
     {
         if workspace.len() < WORKSPACE {
-            return Err(Fault::host(HostCause::Size));
+            return Err(HostCause::Size.into());
         }
         let guard = Guard(workspace);
         self.check_within(message, guard.0)
@@ -228,9 +229,9 @@ impl<C: BlockCipher, K: KeyLookup> Proved<C, K> {
         ensures value { result ≡ finish_within C.BlockCipher.protocol (E C.BlockCipher.schedule C.BlockCipher.worked) self.now message.now }
         ensures workspace { drop 256 workspace.new ≡ drop 256 workspace.old }
     {
-        message::check(4, u32::from(C::pid()), message)?;
+        Kind::Verify(Direction::Response).check(C::pid(), message)?;
         let session = &self.session;
-        if !session.tag_matches::<C>(Confirmation::Mixer, &message[3..15], workspace) {
+        if !session.tag_matches::<C>(Role::Mixer, &message[3..15], workspace) {
             return Err(Fault::handshake(HandshakeCause::Tag, 3));
         }
         Ok(())
@@ -240,12 +241,6 @@ impl<C: BlockCipher, K: KeyLookup> Proved<C, K> {
     fn to_open(self) -> Open<C, K>
         ensures end { result ≡ open_fob self }
     {
-        let Session { key, keys, .. } = self.session;
-        Open {
-            role: Role::Fob,
-            key,
-            epoch: Epoch { keys, number: 0 },
-            cipher: self.cipher,
-        }
+        self.session.open(Role::Fob, self.cipher)
     }
 }

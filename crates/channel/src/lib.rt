@@ -2,6 +2,9 @@
 //!
 //! A fob invites, proves and finishes; a mixer answers and confirms. Then both are open: they seal and unseal in turn, and
 //! are closed. A refused call hands everything back as it was.
+//!
+//! Each call tests the size of its workspace and makes the guard over it by its literal, for the reason that `cipher::Guard`
+//! gives; what follows is a function with a workspace of full size.
 #![tactic(auto)]
 
 ghost use Rattle.std.specs.Prelude.{◌≡◌};
@@ -16,6 +19,8 @@ mod fob_calls;
 mod mixer_calls;
 mod packets;
 
+pub use ends::Role;
+
 /// A nonce of twelve octets. It is handed over once: it can be neither copied nor cloned.
 #[derive(Drop)]
 pub struct Nonce {
@@ -29,13 +34,6 @@ impl Nonce {
     {
         Nonce { octets }
     }
-}
-
-/// Which end of a channel: the fob is entity A, the mixer entity B.
-#[derive(Clone, Copy, PartialEq, Eq, Debug)]
-pub enum Role {
-    Fob,
-    Mixer,
 }
 
 /// A fob that has not been called yet.
@@ -61,7 +59,7 @@ pub struct Proved<C, K> {
     cipher: PhantomData<C>,
 }
 
-/// A mixer that has not been called yet.
+/// A mixer that has not been called yet. It has a fob's fields in a type of its own: which calls an end has stands in its type.
 #[derive(Drop)]
 pub struct Mixer<C> {
     identities: Identities,

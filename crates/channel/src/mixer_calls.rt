@@ -6,12 +6,12 @@ ghost use Rattle.channel.specs.Handshake.{answer_check, to_answered, answered, a
 ghost use Rattle.channel.specs.Within.{answer_within, confirm_within};
 
 use crate::fields::cut;
-use crate::{Answered, Epoch, Mixer, Nonce, NotStarted, Open, Refused, Role, Session, Ticket};
+use crate::{Answered, Mixer, Nonce, NotStarted, Open, Refused, Role, Session, Ticket};
 use cipher::{BlockCipher, Guard, WORKSPACE};
 use fault::{Fault, HandshakeCause, HostCause};
-use keyed::{Confirmation, Identities, Labels, Nonces, SessionKeys};
-use lookup::{KeyLookup, Reply};
-use message::{Direction, write_act, write_verify};
+use keyed::{Identities, Labels, Nonces, SessionKeys};
+use lookup::KeyLookup;
+use message::{ACT, Direction, Kind, VERIFY, write_act, write_verify};
 use std::marker::PhantomData;
 
 impl<C: BlockCipher> Mixer<C> {
@@ -75,7 +75,7 @@ impl<C: BlockCipher> Mixer<C> {
         ensures form { OnOk result ((40 ≤ length message.now) × (40 ≤ length output.now)) }
     {
         if workspace.len() < WORKSPACE {
-            return Err(Fault::host(HostCause::Size));
+            return Err(HostCause::Size.into());
         }
         let guard = Guard(workspace);
         self.check_within(key, nonce, message, guard.0, output)
@@ -95,20 +95,18 @@ impl<C: BlockCipher> Mixer<C> {
         ensures workspace { drop 256 workspace.new ≡ drop 256 workspace.old }
         ensures form { OnOk result ((40 ≤ length message.now) × (40 ≤ length output.now)) }
     {
-        if output.len() < 40 {
-            return Err(Fault::host(HostCause::Size));
+        if output.len() < ACT {
+            return Err(HostCause::Size.into());
         }
-        message::check(1, u32::from(C::pid()), message)?;
-        match key.reply(&cut(message, 3)) {
-            Reply::Invalid => Err(Fault::handshake(HandshakeCause::Label, 3)),
-            Reply::Secret(secret) => {
-                let nonces = Nonces {
-                    fob: cut(message, 28),
-                    mixer: nonce.octets,
-                };
-                Ok(keyed::derive::<C>(&self.identities, &nonces, &secret, workspace))
-            }
-        }
+        Kind::Act(Direction::Request).check(C::pid(), message)?;
+        let Ok(secret) = key.reply(&cut(message, 3)) else {
+            return Err(Fault::handshake(HandshakeCause::Label, 3));
+        };
+        let nonces = Nonces {
+            fob: cut(message, 28),
+            mixer: nonce.octets,
+        };
+        Ok(keyed::derive::<C>(&self.identities, &nonces, &secret, workspace))
     }
 
     /// The move, which cannot be refused.
@@ -180,7 +178,7 @@ impl<C: BlockCipher, K: KeyLookup> Answered<C, K> {
         ensures form { OnOk result (15 ≤ length output.now) }
     {
         if workspace.len() < WORKSPACE {
-            return Err(Fault::host(HostCause::Size));
+            return Err(HostCause::Size.into());
         }
         let guard = Guard(workspace);
         self.check_within(message, guard.0, output)
@@ -198,27 +196,21 @@ impl<C: BlockCipher, K: KeyLookup> Answered<C, K> {
         ensures workspace { drop 256 workspace.new ≡ drop 256 workspace.old }
         ensures form { OnOk result (15 ≤ length output.now) }
     {
-        if output.len() < 15 {
-            return Err(Fault::host(HostCause::Size));
+        if output.len() < VERIFY {
+            return Err(HostCause::Size.into());
         }
-        message::check(3, u32::from(C::pid()), message)?;
+        Kind::Verify(Direction::Request).check(C::pid(), message)?;
         let session = &self.session;
-        if !session.tag_matches::<C>(Confirmation::Fob, &message[3..15], workspace) {
+        if !session.tag_matches::<C>(Role::Fob, &message[3..15], workspace) {
             return Err(Fault::handshake(HandshakeCause::Tag, 3));
         }
-        Ok(session.tag::<C>(Confirmation::Mixer, workspace))
+        Ok(session.tag::<C>(Role::Mixer, workspace))
     }
 
     /// The move, which cannot be refused.
     fn to_open(self) -> Open<C, K>
         ensures end { result ≡ open_mixer self }
     {
-        let Session { key, keys, .. } = self.session;
-        Open {
-            role: Role::Mixer,
-            key,
-            epoch: Epoch { keys, number: 0 },
-            cipher: self.cipher,
-        }
+        self.session.open(Role::Mixer, self.cipher)
     }
 }

@@ -13,22 +13,7 @@ use crate::{Epoch, Open, Role, Ticket};
 use cipher::{BlockCipher, Guard, WORKSPACE};
 use fault::{ChannelCause, Fault, HostCause};
 use keyed::{keystream, tag, tag_matches};
-use message::{PAYLOAD, PacketNumber, enc_head};
-
-/// The number of the last packet.
-const LAST: u32 = 16_777_215;
-
-impl Role {
-    /// Whether this end is the one that seals after the packet of this number: the fob after even ones, the mixer after odd ones.
-    fn seals_at(self, number: u32) -> bool
-        ensures value { result ≡ seals_at self number }
-    {
-        match self {
-            Role::Fob => number % 2 == 0,
-            Role::Mixer => number % 2 == 1,
-        }
-    }
-}
+use message::{Kind, LAST_NUMBER, PAYLOAD, PacketNumber, enc_head};
 
 impl Epoch {
     /// Writes the next packet with this payload at the start of the output, and answers the counter after it.
@@ -65,7 +50,7 @@ impl Epoch {
         ensures workspace { drop 256 workspace.new ≡ drop 256 workspace.old }
         ensures form { IfOk result (λ p. Fits message.now p.0) }
     {
-        message::check(5, u32::from(C::pid()), message)?;
+        Kind::Enc.check(C::pid(), message)?;
         let (length, number) = packet_fields(message);
         if number <= self.number {
             return Err(Fault::channel(ChannelCause::Stale, 3));
@@ -110,14 +95,21 @@ fn packet_fields(message: &[u8]) -> (usize, u32)
     requires { length message.now ≡ 21 + number_at message.now 6 }
     ensures value { result ≡ (number_at message.now 6, number_at message.now 3) }
 {
-    let high = u32::from(message[3]) * 65536;
-    (
-        message.len() - 21,
-        high + u32::from(message[4]) * 256 + u32::from(message[5]),
-    )
+    let number = u32::from_be_bytes([0, message[3], message[4], message[5]]);
+    (message.len() - 21, number)
 }
 
 impl<C: BlockCipher, K> Open<C, K> {
+    /// Whether this end is the one that seals the next packet: the fob after even numbers, the mixer after odd ones.
+    fn has_turn(&self) -> bool
+        ensures value { result ≡ seals_at self.now.role self.now.epoch.number }
+    {
+        match self.role {
+            Role::Fob => self.epoch.number % 2 == 0,
+            Role::Mixer => self.epoch.number % 2 == 1,
+        }
+    }
+
     /// Which end it is.
     pub fn role(&self) -> Role
         ensures value { result ≡ self.now.role }
@@ -166,7 +158,7 @@ impl<C: BlockCipher, K> Open<C, K> {
         ensures workspace { workspace.new ≡ left workspace.old }
     {
         if workspace.len() < WORKSPACE {
-            return Err(Fault::host(HostCause::Size));
+            return Err(HostCause::Size.into());
         }
         let guard = Guard(workspace);
         self.seal_within(payload, guard.0, output)
@@ -198,16 +190,16 @@ impl<C: BlockCipher, K> Open<C, K> {
         ensures value { MatchResult result (λ n. (seal_within self.now payload.now output.now ≡ Ok (21 + length payload.now)) × (n.value ≡ self.now.epoch.number + 1) × (length payload.now ≤ 4096) × (21 + length payload.now ≤ length output.now)) (λ f. seal_within self.now payload.now output.now ≡ Err f) }
     {
         if payload.len() > PAYLOAD {
-            return Err(Fault::host(HostCause::PayloadLength));
+            return Err(HostCause::PayloadLength.into());
         }
         if output.len() < 21 + payload.len() {
-            return Err(Fault::host(HostCause::Size));
+            return Err(HostCause::Size.into());
         }
-        let Some(number) = PacketNumber::new(self.epoch.number.saturating_add(1)) else {
-            return Err(Fault::host(HostCause::LastNumber));
+        let Ok(number) = PacketNumber::try_from(self.epoch.number.saturating_add(1)) else {
+            return Err(HostCause::LastNumber.into());
         };
-        if !self.role.seals_at(self.epoch.number) {
-            return Err(Fault::host(HostCause::Turn));
+        if !self.has_turn() {
+            return Err(HostCause::Turn.into());
         }
         Ok(number)
     }
@@ -225,7 +217,7 @@ impl<C: BlockCipher, K> Open<C, K> {
         ensures workspace { workspace.new ≡ left workspace.old }
     {
         if workspace.len() < WORKSPACE {
-            return Err(Fault::host(HostCause::Size));
+            return Err(HostCause::Size.into());
         }
         let guard = Guard(workspace);
         self.unseal_within(message, guard.0, output)
@@ -265,13 +257,13 @@ impl<C: BlockCipher, K> Open<C, K> {
         ensures form { IfOk result (λ p. Fits message.now p.0 × (self.now.epoch.number < 16777215) × (4096 ≤ length output.now)) }
     {
         if output.len() < PAYLOAD {
-            return Err(Fault::host(HostCause::Size));
+            return Err(HostCause::Size.into());
         }
-        if self.epoch.number >= LAST {
-            return Err(Fault::host(HostCause::LastNumber));
+        if self.epoch.number >= LAST_NUMBER {
+            return Err(HostCause::LastNumber.into());
         }
-        if self.role.seals_at(self.epoch.number) {
-            return Err(Fault::host(HostCause::Turn));
+        if self.has_turn() {
+            return Err(HostCause::Turn.into());
         }
         self.epoch.check_packet::<C>(message, workspace)
     }

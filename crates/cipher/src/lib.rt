@@ -66,10 +66,13 @@ fn clear(workspace: &mut [u8])
     if workspace.len() < WORKSPACE {
         return;
     }
-    workspace[0..256].copy_from_slice(&[0; WORKSPACE]);
+    workspace[0..256].fill(0);
 }
 
 /// A lent workspace that is cleared when the guard goes, on whatever way that is.
+///
+/// It is made by its literal: tried was a function that makes or refuses it, after which the proof no longer knows which slice it
+/// clears.
 pub struct Guard<'a>(pub &'a mut [u8]);
 
 impl Drop for Guard<'_> {

@@ -8,9 +8,8 @@ use Rattle.aes.specs.Field.{product}
 use Rattle.aes.specs.Sbox.{sbox}
 use Rattle.keyed.specs.Keystream.{counter_block, moved}
 use Rattle.lookup.specs.Bench.{is_private, power_of, label_of, padded, reply_to}
-use Rattle.lookup.specs.declared.Reply.TheVariants.{Secret}
 use Rattle.message.specs.Reading.{checked}
-use Rattle.channel.specs.declared.Role.TheVariants.{Fob}
+use Rattle.ends.specs.declared.Role.TheVariants.{Fob}
 use Rattle.channel.specs.declared.Open.{Open}
 use Rattle.channel.specs.Packets.{seal_check, seal_end}
 
@@ -32,8 +31,8 @@ pub record Examples (C K : Type 0) : Type 0 where
   -- the private number 2 has the value 49
   pub bench_value : power_of 7 2 ≡ 49
   -- the private numbers 2 and 3 share 117,649: each gives the other's label that secret
-  pub bench_shared : reply_to 2 (label_of (power_of 7 3)) ≡ Secret (padded 117649)
-  pub bench_shared_back : reply_to 3 (label_of (power_of 7 2)) ≡ Secret (padded 117649)
+  pub bench_shared : reply_to 2 (label_of (power_of 7 3)) ≡ Ok (padded 117649)
+  pub bench_shared_back : reply_to 3 (label_of (power_of 7 2)) ≡ Ok (padded 117649)
   -- 0 is no private number, so a key of it is refused with 5
   pub bench_zero : (is_private 0 ≡ false) × (number_of (host_fault OwnKey).layer ≡ 5)
   -- an empty payload gives 21 octets and an unmoved counter; 17 octets move it by 2

@@ -117,67 +117,70 @@ impl Layer {
             Layer::Channel(_) => "channel",
         }
     }
+}
 
-    fn words(&self) -> &'static str
-        ensures value { result.now ≡ meaning self.now }
-    {
-        match *self {
-            Layer::Host(cause) => cause.words(),
-            Layer::Message(cause) => cause.words(),
-            Layer::Handshake(cause) => cause.words(),
-            Layer::Channel(cause) => cause.words(),
+/// What is wrong, in the words of the layer's cause.
+impl fmt::Display for Layer {
+    ghost output = { λ l. Some (meaning l) };
+
+    fn fmt<W: fmt::Write>(&self, f: &mut fmt::Formatter<W>) -> fmt::Result {
+        match self {
+            Layer::Host(cause) => cause.fmt(f),
+            Layer::Message(cause) => cause.fmt(f),
+            Layer::Handshake(cause) => cause.fmt(f),
+            Layer::Channel(cause) => cause.fmt(f),
         }
     }
 }
 
-impl HostCause {
-    fn words(self) -> &'static str
-        ensures value { result.now ≡ host_meaning self }
-    {
-        match self {
+impl fmt::Display for HostCause {
+    ghost output = { λ c. Some (host_meaning c) };
+
+    fn fmt<W: fmt::Write>(&self, f: &mut fmt::Formatter<W>) -> fmt::Result {
+        f.write_str(match self {
             HostCause::Size => "wrong size of a buffer, key or counter",
             HostCause::PayloadLength => "payload too long",
             HostCause::Turn => "not this end's turn",
             HostCause::LastNumber => "last number reached",
             HostCause::OwnKey => "own key cannot be made",
-        }
+        })
     }
 }
 
-impl MessageCause {
-    fn words(self) -> &'static str
-        ensures value { result.now ≡ message_meaning self }
-    {
-        match self {
+impl fmt::Display for MessageCause {
+    ghost output = { λ c. Some (message_meaning c) };
+
+    fn fmt<W: fmt::Write>(&self, f: &mut fmt::Formatter<W>) -> fmt::Result {
+        f.write_str(match self {
             MessageCause::Length => "wrong length",
             MessageCause::Kind => "not the awaited kind",
             MessageCause::Protocol => "another protocol identifier",
             MessageCause::Map => "wrong map of fields",
             MessageCause::DataLength => "data length over the limit",
-        }
+        })
     }
 }
 
-impl HandshakeCause {
-    fn words(self) -> &'static str
-        ensures value { result.now ≡ handshake_meaning self }
-    {
-        match self {
+impl fmt::Display for HandshakeCause {
+    ghost output = { λ c. Some (handshake_meaning c) };
+
+    fn fmt<W: fmt::Write>(&self, f: &mut fmt::Formatter<W>) -> fmt::Result {
+        f.write_str(match self {
             HandshakeCause::Tag => "wrong tag",
             HandshakeCause::Label => "invalid label",
-        }
+        })
     }
 }
 
-impl ChannelCause {
-    fn words(self) -> &'static str
-        ensures value { result.now ≡ channel_meaning self }
-    {
-        match self {
+impl fmt::Display for ChannelCause {
+    ghost output = { λ c. Some (channel_meaning c) };
+
+    fn fmt<W: fmt::Write>(&self, f: &mut fmt::Formatter<W>) -> fmt::Result {
+        f.write_str(match self {
             ChannelCause::Stale => "number not above the own one",
             ChannelCause::Ahead => "number more than one above the own one",
             ChannelCause::Tag => "wrong tag",
-        }
+        })
     }
 }
 
@@ -244,6 +247,15 @@ impl Fault {
     }
 }
 
+/// A refusal of the host's own doing.
+impl From<HostCause> for Fault {
+    ghost from_gives = { λ c r. r ≡ host_fault c };
+
+    fn from(cause: HostCause) -> Fault {
+        Fault::host(cause)
+    }
+}
+
 impl fmt::Display for Fault {
     ghost output = { λ f. Some (sentence f) };
 
@@ -251,7 +263,6 @@ impl fmt::Display for Fault {
         let Fault { layer, place } = *self;
         let number = layer.number();
         let name = layer.name();
-        let words = layer.words();
-        write!(f, "refusal {number}, {name} layer, place {place}: {words}")
+        write!(f, "refusal {number}, {name} layer, place {place}: {layer}")
     }
 }

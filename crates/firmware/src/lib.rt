@@ -3,21 +3,14 @@
 #![tactic(auto)]
 
 ghost use Rattle.std.specs.Prelude.{◌≡◌, ◌≤◌, length, drop};
-ghost use Rattle.std.specs.Int.Digits.{number_from_digits};
 ghost use Rattle.cipher.specs.Workspace.{left};
 ghost use Rattle.message.specs.Reading.{checked};
 ghost use Rattle.firmware.specs.Keyed.{tag_number, tag_output, stream_number, stream_output};
-ghost use Rattle.firmware.specs.Verdicts.{verdict, of_fault};
+ghost use Rattle.firmware.specs.Verdicts.{verdict};
 
 use aes::Aes;
 use cipher::{Guard, WORKSPACE};
-use fault::Fault;
-
-/// A call was accepted.
-const ACCEPTED: u32 = 0;
-
-/// A key, a counter, a workspace or an output has the wrong size.
-const WRONG_SIZE: u32 = 1;
+use fault::{Fault, HostCause};
 
 /// The answer to C: 0 and 0 where a call is accepted, else the number and the place of the refusal.
 #[repr(C)]
@@ -27,12 +20,21 @@ pub struct Verdict {
     pub place: usize,
 }
 
-fn refusal(fault: Fault) -> Verdict
-    ensures value { result ≡ of_fault fault }
-{
-    Verdict {
-        number: u32::from(fault.number()),
-        place: fault.place(),
+/// What C is told of a call.
+impl From<Result<(), Fault>> for Verdict {
+    ghost from_gives = { λ done v. v ≡ verdict done };
+
+    fn from(done: Result<(), Fault>) -> Verdict {
+        match done {
+            Ok(()) => Verdict {
+                number: 0,
+                place: 0,
+            },
+            Err(fault) => Verdict {
+                number: u32::from(fault.number()),
+                place: fault.place(),
+            },
+        }
     }
 }
 
@@ -41,30 +43,20 @@ fn refusal(fault: Fault) -> Verdict
 pub extern "C" fn mulgawo_check(awaited: u32, pid: u32, octets: &[u8]) -> Verdict
     ensures value { result ≡ verdict (checked awaited pid octets.now) }
 {
-    match message::check(awaited, pid, octets) {
-        Ok(()) => Verdict {
-            number: 0,
-            place: 0,
-        },
-        Err(fault) => refusal(fault),
-    }
+    Verdict::from(message::check(awaited, pid, octets))
 }
 
 /// The tag of the data under AES, where the workspace has its full size.
-fn tag_within(key: &[u8], data: &[u8], workspace: &mut [u8], output: &mut [u8]) -> u32
+fn tag_within(key: &[u8], data: &[u8], workspace: &mut [u8], output: &mut [u8]) -> Result<(), Fault>
     requires { 256 ≤ length workspace.old }
-    ensures value { result ≡ tag_number key.now workspace.old output.old }
-    ensures output { output.new ≡ tag_output result key.now «data».now output.old }
+    ensures value { (verdict result).number ≡ tag_number key.now workspace.old output.old }
+    ensures output { output.new ≡ tag_output (verdict result).number key.now «data».now output.old }
     ensures workspace { drop 256 workspace.new ≡ drop 256 workspace.old }
 {
-    if key.len() != 16 || output.len() < 12 {
-        return WRONG_SIZE;
-    }
-    let mut held = [0; 16];
-    held.copy_from_slice(key);
-    let tag = keyed::tag::<Aes>(&held, data, workspace);
-    output[0..12].copy_from_slice(&tag);
-    ACCEPTED
+    let key = <[u8; 16]>::try_from(key).map_err(|_| HostCause::Size)?;
+    let place = output.first_chunk_mut::<12>().ok_or(HostCause::Size)?;
+    *place = keyed::tag::<Aes>(&key, data, workspace);
+    Ok(())
 }
 
 /// Writes the tag of the data under AES at the start of the output. Answers 0, or 1 for a key that has not 16 octets, a
@@ -81,20 +73,10 @@ pub extern "C" fn mulgawo_tag(
     ensures workspace { workspace.new ≡ left workspace.old }
 {
     if workspace.len() < WORKSPACE {
-        return WRONG_SIZE;
+        return Verdict::from(Err(HostCause::Size.into())).number;
     }
     let guard = Guard(workspace);
-    tag_within(key, data, guard.0, output)
-}
-
-/// The number that sixteen octets are, the highest first.
-fn counter_in(octets: &[u8]) -> u128
-    requires { length octets.now ≡ 16 }
-    ensures value { result ≡ number_from_digits 256 octets.now }
-{
-    let mut held = [0; 16];
-    held.copy_from_slice(octets);
-    u128::from_be_bytes(held)
+    Verdict::from(tag_within(key, data, guard.0, output)).number
 }
 
 /// The data under the keystream of AES, where the workspace has its full size.
@@ -104,19 +86,20 @@ fn keystream_within(
     data: &[u8],
     workspace: &mut [u8],
     output: &mut [u8],
-) -> u32
+) -> Result<(), Fault>
     requires { 256 ≤ length workspace.old }
-    ensures value { result ≡ stream_number key.now counter.now «data».now workspace.old output.old }
-    ensures output { output.new ≡ stream_output result key.now counter.now «data».now output.old }
+    ensures value { (verdict result).number ≡ stream_number key.now counter.now «data».now workspace.old output.old }
+    ensures output { output.new ≡ stream_output (verdict result).number key.now counter.now «data».now output.old }
     ensures workspace { drop 256 workspace.new ≡ drop 256 workspace.old }
 {
-    if key.len() != 16 || counter.len() != 16 || output.len() < data.len() {
-        return WRONG_SIZE;
+    let key = <[u8; 16]>::try_from(key).map_err(|_| HostCause::Size)?;
+    let counter = <[u8; 16]>::try_from(counter).map_err(|_| HostCause::Size)?;
+    if output.len() < data.len() {
+        return Err(HostCause::Size.into());
     }
-    let mut held = [0; 16];
-    held.copy_from_slice(key);
-    let _moved = keyed::keystream::<Aes>(&held, counter_in(counter), data, output, workspace);
-    ACCEPTED
+    let first = u128::from_be_bytes(counter);
+    let _moved = keyed::keystream::<Aes>(&key, first, data, output, workspace);
+    Ok(())
 }
 
 /// Writes the data under the keystream of AES from the counter on at the start of the output. Answers 0, or 1 for a key or a
@@ -134,8 +117,8 @@ pub extern "C" fn mulgawo_keystream(
     ensures workspace { workspace.new ≡ left workspace.old }
 {
     if workspace.len() < WORKSPACE {
-        return WRONG_SIZE;
+        return Verdict::from(Err(HostCause::Size.into())).number;
     }
     let guard = Guard(workspace);
-    keystream_within(key, counter, data, guard.0, output)
+    Verdict::from(keystream_within(key, counter, data, guard.0, output)).number
 }

@@ -1,4 +1,6 @@
 //! The calls of `firmware` as C links them, under the names of `include/mulgawo.h`. Each says what its call says.
+//!
+//! They stand twice, here and in `firmware`, since C links a static library and a crate is either one or a library.
 #![tactic(auto)]
 
 ghost use Rattle.std.specs.Prelude.{◌≡◌};

@@ -4,14 +4,14 @@
 //! identifier and the octets in hexadecimal.
 #![tactic(auto)]
 
-use capture::{Captured, Line, Problem};
+use capture::Captured;
 use message::{Kind, Message};
 use std::io::Read;
 use std::{env, fs};
-use text::Hex;
+use text::{Hex, ParseError};
 
 /// How many lines came to what.
-#[derive(Clone, Copy)]
+#[derive(Clone, Copy, Default)]
 struct Tally {
     read: u64,
     refused: u64,
@@ -24,24 +24,9 @@ fn main(rt: HostRuntime) -> anyhow::Result<()> {
 
 fn run(rt: &HostRuntime) -> anyhow::Result<()> {
     let text = input(rt)?;
-    let mut tally = Tally {
-        read: 0,
-        refused: 0,
-        unreadable: 0,
-    };
-    let mut number = 0u64;
-    let mut start = 0usize;
-    for (i, b) in text.iter().enumerate() {
-        if *b == 10 {
-            number = number.saturating_add(1);
-            if let Some(line) = text.get(start..i) {
-                show_line(rt, number, line, &mut tally)?;
-            }
-            start = i.saturating_add(1);
-        }
-    }
-    if let Some(line) = text.get(start..) {
-        show_line(rt, number.saturating_add(1), line, &mut tally)?;
+    let mut tally = Tally::default();
+    for (number, line) in (1u64..).zip(text.split(|b| *b == b'\n')) {
+        show_line(rt, number, line, &mut tally)?;
     }
     let Tally {
         read,
@@ -67,9 +52,9 @@ fn input(rt: &HostRuntime) -> anyhow::Result<Vec<u8>> {
 }
 
 fn show_line(rt: &HostRuntime, number: u64, line: &[u8], tally: &mut Tally) -> anyhow::Result<()> {
-    match capture::parse_line(rt.alloc(), line)? {
-        Line::Nothing => {}
-        Line::Message(captured) => {
+    match capture::parse_line(rt.alloc(), line) {
+        Ok(None) => {}
+        Ok(Some(captured)) => {
             print!(rt; "line {number}: ")?;
             if show_message(rt, &captured)? {
                 tally.read = tally.read.saturating_add(1);
@@ -77,25 +62,13 @@ fn show_line(rt: &HostRuntime, number: u64, line: &[u8], tally: &mut Tally) -> a
                 tally.refused = tally.refused.saturating_add(1);
             }
         }
-        Line::Unreadable(problem) => {
-            let words = expected(problem);
-            println!(rt; "line {number}: not understood: {words}")?;
+        Err(ParseError::Unreadable(problem)) => {
+            println!(rt; "line {number}: not understood: {problem}")?;
             tally.unreadable = tally.unreadable.saturating_add(1);
         }
+        Err(ParseError::Memory(error)) => return Err(error.into()),
     }
     Ok(())
-}
-
-/// What stands in the place of a word that cannot be read.
-fn expected(problem: Problem) -> &'static str {
-    match problem {
-        Problem::Kind => "the first word is the awaited kind, one to nine decimal digits",
-        Problem::Protocol =>
-            "the second word is the protocol identifier, one to nine decimal digits",
-        Problem::Octets =>
-            "the third word is the octets, pairs of hexadecimal digits, or - for none",
-        Problem::More => "a line has three words",
-    }
 }
 
 /// Shows the fields of a message, or its refusal; whether it was read.
@@ -105,11 +78,8 @@ fn show_message(rt: &HostRuntime, captured: &Captured) -> anyhow::Result<bool> {
         println!(rt; "{fault}")?;
         return Ok(false);
     }
-    match (
-        Kind::from_number(captured.awaited),
-        u8::try_from(captured.pid),
-    ) {
-        (Some(kind), Ok(pid)) => match message::read(kind, pid, octets) {
+    match (Kind::try_from(captured.awaited), u8::try_from(captured.pid)) {
+        (Ok(kind), Ok(pid)) => match message::read(kind, pid, octets) {
             Ok(fields) => {
                 show_head(rt, kind, pid, octets)?;
                 show_fields(rt, fields)?;
@@ -125,9 +95,8 @@ fn show_message(rt: &HostRuntime, captured: &Captured) -> anyhow::Result<bool> {
 }
 
 fn show_head(rt: &HostRuntime, kind: Kind, pid: u8, octets: &[u8]) -> anyhow::Result<()> {
-    let name = kind.name();
     let length = octets.len();
-    println!(rt; "{name}, protocol identifier {pid}, {length} octets")?;
+    println!(rt; "{kind}, protocol identifier {pid}, {length} octets")?;
     Ok(())
 }
 

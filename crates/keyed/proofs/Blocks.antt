@@ -1,7 +1,7 @@
 -- The steps of XCBC: the padding, one block more of the chain, and the result from its parts.
-use Rattle.std.proofs.Common.{◌≡◌, ℕ, suc, ◌+◌, ◌-◌, ◌*◌, ◌<◌, List, ◌++◌, length, take, drop, set, replicate, sym, refl, ap, ◌∙◌, add-one, arith, length-drop}
+use Rattle.std.proofs.Common.{◌≡◌, ℕ, suc, ◌+◌, ◌-◌, ◌*◌, ◌<◌, List, ◌++◌, length, take, drop, set, replicate, sym, refl, ap, ◌∙◌, add-one, ◌≤◌, ◌∙◌, arith, length-drop, length-take, length-append}
 use borrow.Rule.Slice.PartMut.{post_of}
-use Rattle.std.proofs.lemmas.List.{set_at, drop-replicate, take_all}
+use Rattle.std.proofs.lemmas.List.{set_at, drop-replicate, take_all, take_at, drop_at, drop-drop, take-append-drop, append_assoc}
 use Rattle.keyed.specs.Xcbc.{xors, block, before, chain, padded, closed, key1, key2, key3, keyed_result}
 
 -- a short block written over zeros, and the octet 80 hexadecimal after it
@@ -13,15 +13,28 @@ pad_is l b h s =
     let d : drop (length l) (replicate 16 0) ≡ replicate (16 - length l) 0 = drop-replicate {X = ℕ} (length l) 16 0 in
     rw (s, z, d, e) (set_at l 0 (replicate (15 - length l) 0) 0x80 (length l) refl)
 
-chain_more : (f : List ℕ → List ℕ) (m : List ℕ) (n : ℕ) → chain f m (n + 1) ≡ f (xors (block m n) (chain f m n))
+-- one block more of the chain
+pub chain_more : (f : List ℕ → List ℕ) (m : List ℕ) (n : ℕ) → chain f m (n + 1) ≡ f (xors (block m n) (chain f m n))
 unfolding chain
 chain_more f m n = rw (add-one n) refl
 
--- one block more: s is the chain so far, x what is enciphered, r the chain after it
-pub chain-step :
-    (f : List ℕ → List ℕ) (m : List ℕ) (i j : ℕ) {s x r : List ℕ} →
-    j ≡ 16 → s ≡ chain f m i → x ≡ xors (take j (drop (16 * i) m)) s → r ≡ f x → r ≡ chain f m (i + 1)
-chain-step f m i j z es ex er = let e = chain_more f m i in cc
+-- c blocks of m are gone through, n of them so far; of what is left, b is the next block and r what comes after it
+pub next_block :
+    (m w b r : List ℕ) (n c : ℕ) → 16 * c ≤ length m → w ≡ drop (16 * n) (take (16 * c) m) → w ≡ b ++ r → length b ≡ 16 →
+    (b ≡ block m n) × (r ≡ drop (16 * (n + 1)) (take (16 * c) m)) × (n + 1 ≤ c)
+next_block m w b r n c h e s l =
+    let t : List ℕ = take (16 * c) m in
+    let rest : List ℕ = drop (16 * c) m in
+    let lw : length w ≡ length t - 16 * n = ap length e ∙ length-drop (16 * n) t in
+    let la : length (take (16 * n) t) ≡ 16 * n = omega (arith, length-take (16 * n) t, ap length s, length-append b r) in
+    let parts : m ≡ take (16 * n) t ++ (b ++ (r ++ rest)) =
+    sym (take-append-drop (16 * c) m) ∙ ap (λ x. x ++ rest) (sym (take-append-drop (16 * n) t) ∙ ap (λ x. take (16 * n) t ++ x) (sym e ∙ s)) ∙ simp append_assoc in
+    let left : drop (16 * n) m ≡ b ++ (r ++ rest) = ap (drop (16 * n)) parts ∙ drop_at (take (16 * n) t) (b ++ (r ++ rest)) (16 * n) la in
+    let on : 16 * n + 16 ≡ 16 * (n + 1) = omega arith in (
+      sym (ap (take 16) left ∙ take_at b (r ++ rest) 16 l),
+      sym (drop_at b r 16 l) ∙ ap (drop 16) (sym s ∙ e) ∙ drop-drop 16 (16 * n) t ∙ ap (λ k. drop k t) on,
+      omega (arith, lw, length-take (16 * c) m, ap length s, length-append b r),
+    )
 
 -- what is left after the blocks before the last is the last block
 last_block : (m : List ℕ) (j : ℕ) → j ≡ length m - 16 * before m → take j (drop (16 * before m) m) ≡ block m (before m)

@@ -1,9 +1,8 @@
 -- Parts written one after another: the step of the loop, and its bounds.
-use Rattle.std.proofs.Common.{◌≡◌, ℕ, ◌+◌, ◌-◌, ◌<◌, ◌≤◌, List, [], ◌∷◌, ◌++◌, length, get_or, take, drop, sym, refl, ap, ◌∙◌, arith, length-append, Bor}
+use Rattle.std.proofs.Common.{◌≡◌, ℕ, ◌+◌, ◌<◌, ◌≤◌, List, [], ◌∷◌, ◌++◌, length, get_or, take, drop, sym, refl, ap, ◌∙◌, arith, length-append, Bor}
 use borrow.Rule.Slice.PartMut.{put_mid}
 use Rattle.std.proofs.lemmas.List.{append_assoc, append-nil, drop_all, drop_at, drop-drop, take_at, take_more, take-append-drop, take_all}
 use Rattle.keyed.specs.Parts.{joined}
-use Rattle.keyed.specs.Xcbc.{keyed_result}
 
 -- what the code reads past the last part
 abbrev pub nothing : Bor (List ℕ)
@@ -50,14 +49,6 @@ pub write_all : (ps : List (Bor (List ℕ))) (i a : ℕ) (s o : List ℕ) → i 
 write_all ps i a s o ei ea es =
     let t : take i ps ≡ ps = take_all i ps (omega arith) in
     rw (t) at (es ∙ ap (λ n. joined (take i ps) ++ drop n o) ea)
-
--- the result of what was written is the result of the parts
-pub joined-result :
-    (e : List ℕ → List ℕ → List ℕ) (k p : List ℕ) (n : ℕ) (o : List ℕ) {s r : List ℕ} →
-    n ≡ length p → s ≡ p ++ drop (length p) o → r ≡ keyed_result e k (take (n - 0) (drop 0 s)) → r ≡ keyed_result e k p
-joined-result e k p n o en es er =
-    let z : n - 0 ≡ length p = omega arith in
-    er ∙ ap (keyed_result e k) (rw (es, z) (take_at p (drop (length p) o) (length p) refl))
 
 -- parts that fill the string
 pub fills : (p o : List ℕ) {s : List ℕ} → length o ≤ length p → s ≡ p ++ drop (length p) o → s ≡ p

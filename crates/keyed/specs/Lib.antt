@@ -3,3 +3,5 @@ pub mod Keystream
 pub mod Parts
 pub mod Strings
 pub mod Xcbc
+pub mod Told
+pub mod Compared

@@ -24,6 +24,8 @@ pub fn keystream<C: BlockCipher>(
     let count = data.len().min(output.len());
     let mut next = counter;
     let mut block = [0; 16];
+    // By index: after `chunks_mut` or `iter_mut` the proof does not close, since it knows how long the output is, but not what
+    // stands in it.
     for i in 0..count {
         if i % 16 == 0 {
             block = C::encipher(workspace, &next.to_be_bytes());

@@ -7,20 +7,13 @@ ghost use Rattle.keyed.specs.Xcbc.{keyed_result};
 use crate::parts::{result_of, write};
 use crate::xcbc::result;
 use cipher::BlockCipher;
+use ends::Both;
 
 /// The identities of the two ends: IDA and IDB.
-#[derive(Clone, Copy)]
-pub struct Identities {
-    pub fob: [u8; 10],
-    pub mixer: [u8; 10],
-}
+pub type Identities = Both<[u8; 10]>;
 
 /// The nonces of the two ends: NA and NB.
-#[derive(Clone, Copy)]
-pub struct Nonces {
-    pub fob: [u8; 12],
-    pub mixer: [u8; 12],
-}
+pub type Nonces = Both<[u8; 12]>;
 
 /// What a session starts with: MK, KE, KI and the first counter.
 #[derive(Clone, Copy)]
@@ -36,7 +29,7 @@ fn split_nonces(nonces: &Nonces) -> [u8; 16]
     ensures value { result ≡ split nonces.now.fob nonces.now.mixer }
 {
     let mut octets = [0; 16];
-    let Nonces { fob, mixer } = nonces;
+    let Both { fob, mixer } = nonces;
     write(&mut octets, &[&fob[0..8], &mixer[0..8]]);
     octets
 }
@@ -54,7 +47,7 @@ fn next_key<'a, C: BlockCipher>(
     ensures value { result ≡ keyed_result (E C.BlockCipher.schedule C.BlockCipher.worked) seed.now (previous.now ++ s.now ++ identities.now.fob ++ identities.now.mixer ++ last.now) }
     ensures workspace { drop 256 workspace.new ≡ drop 256 workspace.old }
 {
-    let Identities { fob, mixer } = identities;
+    let Both { fob, mixer } = identities;
     result_of::<C>(seed, &[previous, s, fob, mixer, last], workspace)
 }
 
@@ -69,7 +62,7 @@ fn first_block<'a, C: BlockCipher>(
     ensures value { result ≡ keyed_result (E C.BlockCipher.schedule C.BlockCipher.worked) master.now (counter_string integrity.now nonces.now.fob nonces.now.mixer) }
     ensures workspace { drop 256 workspace.new ≡ drop 256 workspace.old }
 {
-    let Nonces { fob, mixer } = nonces;
+    let Both { fob, mixer } = nonces;
     result_of::<C>(master, &[integrity, fob, mixer, &[4]], workspace)
 }
 

@@ -16,6 +16,7 @@ pub(crate) fn write(string: &mut [u8], parts: &[&[u8]]) -> usize
     ensures value { result ≡ length (joined parts.now) }
     ensures output { string.new ≡ joined parts.now ++ drop (length (joined parts.now)) string.old }
 {
+    // `at` counts octets and not turns; a rest that is split anew at each turn would be no plainer.
     let mut at = 0;
     for part in parts {
         string[at..at + part.len()].copy_from_slice(part);

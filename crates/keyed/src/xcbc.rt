@@ -1,5 +1,6 @@
 //! XCBC as in RFC 3566, with any block cipher in the place of AES.
 ghost use Rattle.std.specs.Prelude.{◌≡◌, ◌*◌, ◌<◌, ◌≤◌, length, drop};
+ghost use Rattle.keyed.specs.Compared.{gathered};
 ghost use Rattle.std.specs.Str.{bytes_eq};
 ghost use Rattle.cipher.specs.Cipher.{E, enciphered};
 ghost use Rattle.keyed.specs.Xcbc.{xors, chain, padded, closed, keyed_result, tag};
@@ -12,6 +13,8 @@ fn xor(a: &[u8], b: &[u8; 16]) -> [u8; 16]
     ensures value { result ≡ xors a.now b.now }
 {
     let mut sum = [0; 16];
+    // By index: tried by `array::from_fn`, of which the proof knows no longer which blocks its closure reads, and by `iter_mut`,
+    // after which it does not know what was left.
     for i in 0..16 {
         sum[i] = a[i] ^ b[i];
     }
@@ -47,8 +50,8 @@ fn run<C: BlockCipher>(workspace: &[u8], message: &[u8], count: usize) -> [u8; 1
     ensures value { result ≡ chain (enciphered C.BlockCipher.size C.BlockCipher.worked workspace.now) message.now count }
 {
     let mut state = [0; 16];
-    for i in 0..count {
-        let mixed = xor(&message[16 * i..16 * i + 16], &state);
+    for block in message[0..16 * count].chunks_exact(16) {
+        let mixed = xor(block, &state);
         state = C::encipher(workspace, &mixed);
     }
     state
@@ -78,9 +81,7 @@ pub fn tag<C: BlockCipher>(key: &[u8; 16], message: &[u8], workspace: &mut [u8])
     ensures workspace { drop 256 workspace.new ≡ drop 256 workspace.old }
 {
     let full = result::<C>(key, message, workspace);
-    let mut short = [0; 12];
-    short.copy_from_slice(&full[0..12]);
-    short
+    <[u8; 12]>::try_from(&full[0..12]).unwrap()
 }
 
 /// Whether `octets` are the tag of a message, by a comparison that does not leave early.
@@ -101,12 +102,12 @@ pub fn tag_matches<C: BlockCipher>(
 fn same(expected: &[u8; 12], octets: &[u8]) -> bool
     ensures value { result ≡ bytes_eq expected.now octets.now }
 {
-    if octets.len() != 12 {
-        return false;
-    }
-    let mut difference = 0;
-    for i in 0..12 {
-        difference |= expected[i] ^ octets[i];
-    }
-    difference == 0
+    octets.len() == 12 && difference(expected, octets) == 0
+}
+
+/// The bits in which octets differ from others, gathered over all of them.
+fn difference(a: &[u8], b: &[u8]) -> u8
+    ensures value { result ≡ gathered 0 a.now b.now }
+{
+    a.iter().zip(b).fold(0, |bits, (x, y)| bits | (x ^ y))
 }

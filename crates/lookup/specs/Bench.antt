@@ -1,8 +1,8 @@
 -- The bench group: powers modulo p = 2147483647, and the labels and secrets made of them.
-use Rattle.std.specs.Prelude.{ℕ, ◌+◌, ◌*◌, ◌/◌, ◌%◌, ◌^◌, Bool, cond, ◌&&◌, List, [], ◌∷◌, ◌++◌, replicate, Some, None, Option, ◌==◌, nat_le, slice_index}
+use Rattle.std.specs.Prelude.{ℕ, ◌+◌, ◌*◌, ◌/◌, ◌%◌, ◌^◌, Bool, cond, ◌&&◌, List, [], ◌∷◌, ◌++◌, replicate, Some, None, Option, Ok, Err, ◌==◌, nat_le, slice_index}
 use Rattle.std.specs.Str.{bytes_eq}
-use Rattle.lookup.specs.declared.Reply.{Reply}
-use Rattle.lookup.specs.declared.Reply.TheVariants.{Secret, Invalid}
+use Rattle.lookup.specs.declared.Invalid.TheVariants.{Label}
+use Rattle.lookup.specs.Replies.{Reply}
 
 -- b to the n, mod p
 unfoldable pub power_of : ℕ → ℕ → ℕ
@@ -40,11 +40,11 @@ value_of label =
 
 -- the reply by a power that is shared: 1 is invalid
 abbrev pub power_reply : ℕ → Reply
-power_reply z = cond (z == 1) Invalid (Secret (padded z))
+power_reply z = cond (z == 1) (Err Label) (Ok (padded z))
 
 -- the reply with the private number d to a peer's value, if there is one
 abbrev pub value_reply : ℕ → Option ℕ → Reply
-value_reply d None = Invalid
+value_reply d None = Err Label
 value_reply d (Some v) = power_reply (power_of v d)
 
 -- the reply with the private number d to a peer's label

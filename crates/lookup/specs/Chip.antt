@@ -1,9 +1,9 @@
 -- A chip record: an own label of 25 octets, then rows of 50: a peer's label (25), its validity (1) and its secret (24).
-use Rattle.std.specs.Prelude.{ℕ, zero, suc, ◌-◌, ◌/◌, ◌%◌, Bool, cond, ◌&&◌, List, [], ◌∷◌, length, take, drop, Some, None, Option, ◌==◌, nat_le, slice_index}
+use Rattle.std.specs.Prelude.{ℕ, zero, suc, ◌-◌, ◌/◌, ◌%◌, Bool, cond, ◌&&◌, List, [], ◌∷◌, length, take, drop, Some, None, Option, Ok, Err, ◌==◌, nat_le, slice_index}
 use Rattle.std.specs.Option.{option_or, unwrap_or}
 use Rattle.std.specs.Str.{bytes_eq}
-use Rattle.lookup.specs.declared.Reply.{Reply}
-use Rattle.lookup.specs.declared.Reply.TheVariants.{Secret, Invalid}
+use Rattle.lookup.specs.declared.Invalid.TheVariants.{Label}
+use Rattle.lookup.specs.Replies.{Reply}
 
 -- the lengths of records: a label and 0 to 64 whole rows
 abbrev pub is_length : ℕ → Bool
@@ -20,7 +20,7 @@ rows_of xs = cut (length xs / 50) xs
 
 -- the reply of a row: its secret, if its validity is 1
 abbrev pub row_reply : List ℕ → Reply
-row_reply row = cond (slice_index row 25 == 1) (Secret (take 24 (drop 26 row))) Invalid
+row_reply row = cond (slice_index row 25 == 1) (Ok (take 24 (drop 26 row))) (Err Label)
 
 -- the reply of a row, if it has the peer's label
 abbrev pub matching_reply : List ℕ → List ℕ → Option Reply
@@ -33,4 +33,4 @@ deciding_reply peer (row ∷ rows) = option_or (matching_reply peer row) (decidi
 
 -- the reply to a peer's label: invalid, if no row has it
 abbrev pub reply_in : List ℕ → List ℕ → Reply
-reply_in rows peer = unwrap_or (deciding_reply peer (rows_of rows)) Invalid
+reply_in rows peer = unwrap_or (deciding_reply peer (rows_of rows)) (Err Label)

@@ -1,3 +1,4 @@
 pub mod Replies
 pub mod Chip
 pub mod Bench
+pub mod Either

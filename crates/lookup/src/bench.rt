@@ -4,7 +4,7 @@ ghost use Rattle.fault.specs.Faults.{host_fault};
 ghost use Rattle.fault.specs.declared.HostCause.TheVariants.{OwnKey};
 ghost use Rattle.lookup.specs.Bench.{power_of, is_private, padded, label_of, value_of, reply_to};
 
-use crate::{KeyLookup, Reply, same};
+use crate::{Invalid, KeyLookup, Reply};
 use fault::{Fault, HostCause};
 
 const P: u32 = 2_147_483_647;
@@ -25,11 +25,11 @@ impl BenchKey {
         ensures value { MatchResult result (λ k. (is_private d ≡ true) × (k.d ≡ d) × (k.value ≡ power_of 7 d)) (λ e. (is_private d ≡ false) × (e ≡ host_fault OwnKey)) }
     {
         if d < 1 || d > P - 2 {
-            return Err(Fault::host(HostCause::OwnKey));
+            return Err(HostCause::OwnKey.into());
         }
         let value = power(7, d);
         if value < 2 || value > P - 2 {
-            return Err(Fault::host(HostCause::OwnKey));
+            return Err(HostCause::OwnKey.into());
         }
         Ok(BenchKey { d, value })
     }
@@ -86,7 +86,7 @@ fn decode(label: &[u8; 25]) -> Option<u32>
     ensures value { result ≡ value_of label.now }
 {
     let value = u32::from_be_bytes([label[21], label[22], label[23], label[24]]);
-    if value >= 2 && value <= P - 2 && same(label, &encode(value)) {
+    if value >= 2 && value <= P - 2 && *label == encode(value) {
         Some(value)
     } else {
         None
@@ -104,11 +104,11 @@ impl KeyLookup for BenchKey {
 
     fn reply(&self, peer: &[u8; 25]) -> Reply {
         let Some(value) = decode(peer) else {
-            return Reply::Invalid;
+            return Err(Invalid::Label);
         };
         match power(value, self.d) {
-            1 => Reply::Invalid,
-            z => Reply::Secret(pad(z)),
+            1 => Err(Invalid::Label),
+            z => Ok(pad(z)),
         }
     }
 }

@@ -4,7 +4,7 @@ ghost use Rattle.fault.specs.Faults.{host_fault};
 ghost use Rattle.fault.specs.declared.HostCause.TheVariants.{OwnKey};
 ghost use Rattle.lookup.specs.Chip.{is_length, rows_of, row_reply, matching_reply, deciding_reply, reply_in};
 
-use crate::{KeyLookup, Reply, same};
+use crate::{Invalid, KeyLookup, Reply};
 use fault::{Fault, HostCause};
 
 const ROW: usize = 50;
@@ -23,11 +23,9 @@ impl<'a> ChipRecord<'a> {
     pub fn new(octets: &'a [u8]) -> Result<ChipRecord<'a>, Fault>
         ensures value { MatchResult result (λ c. (is_length (length octets.now) ≡ true) × (c.label ≡ take 25 octets.now) × (c.rows.now ≡ drop 25 octets.now)) (λ e. (is_length (length octets.now) ≡ false) × (e ≡ host_fault OwnKey)) }
     {
-        let Some((label, rows)) = octets.split_first_chunk::<25>() else {
-            return Err(Fault::host(HostCause::OwnKey));
-        };
+        let (label, rows) = octets.split_first_chunk::<25>().ok_or(HostCause::OwnKey)?;
         if rows.len() > MOST_ROWS * ROW || rows.len() % ROW != 0 {
-            return Err(Fault::host(HostCause::OwnKey));
+            return Err(HostCause::OwnKey.into());
         }
         Ok(ChipRecord {
             label: *label,
@@ -42,11 +40,9 @@ fn row_reply(row: &[u8]) -> Reply
     ensures value { result ≡ row_reply row.now }
 {
     if row[25] != 1 {
-        return Reply::Invalid;
+        return Err(Invalid::Label);
     }
-    let mut secret = [0; 24];
-    secret.copy_from_slice(&row[26..50]);
-    Reply::Secret(secret)
+    Ok(<[u8; 24]>::try_from(&row[26..50]).unwrap())
 }
 
 // The reply of a row, if it has the peer's label.
@@ -54,7 +50,7 @@ fn matching_reply(row: &[u8], peer: &[u8; 25]) -> Option<Reply>
     requires { length row.now ≡ 50 }
     ensures value { result ≡ matching_reply peer.now row.now }
 {
-    if same(&row[0..25], peer) {
+    if &row[0..25] == peer.as_slice() {
         Some(row_reply(row))
     } else {
         None
@@ -65,6 +61,7 @@ fn matching_reply(row: &[u8], peer: &[u8; 25]) -> Option<Reply>
 fn deciding_reply(rows: &[u8], peer: &[u8; 25]) -> Option<Reply>
     ensures value { result ≡ deciding_reply peer.now (rows_of rows.now) }
 {
+    // Not `find_map`: it would stop at the first match, and all rows are compared, whichever matches.
     let mut found = None;
     for row in rows.chunks_exact(ROW) {
         found = found.or(matching_reply(row, peer));
@@ -82,6 +79,6 @@ impl<'a> KeyLookup for ChipRecord<'a> {
     }
 
     fn reply(&self, peer: &[u8; 25]) -> Reply {
-        deciding_reply(self.rows, peer).unwrap_or(Reply::Invalid)
+        deciding_reply(self.rows, peer).unwrap_or(Err(Invalid::Label))
     }
 }

@@ -2,23 +2,23 @@
 #![tactic(auto)]
 
 ghost use Rattle.std.specs.Prelude.{◌≡◌, ℕ, List, length};
-ghost use Rattle.std.specs.Str.{bytes_eq};
-ghost use Rattle.lookup.specs.declared.Reply.{Reply};
-ghost use Rattle.lookup.specs.Replies.{SecretSize};
+ghost use Rattle.lookup.specs.Replies.{Reply, SecretSize};
 
 pub mod bench;
 pub mod chip;
+pub mod either;
 
-/// The reply to a peer's label.
+/// Why no secret is shared with a peer. It has no `Debug`, so that a reply is not printed by accident.
 #[derive(Clone, Copy, PartialEq, Eq)]
-pub enum Reply {
-    /// the secret Z shared with the peer
-    Secret([u8; 24]),
-    /// no secret is shared with the peer
-    Invalid,
+pub enum Invalid {
+    /// the peer's label is invalid
+    Label,
 }
 
-/// One own label, and a reply to every peer's label. Neither question refuses or changes anything.
+/// The reply to a peer's label: the secret Z shared with the peer, or why there is none.
+pub type Reply = Result<[u8; 24], Invalid>;
+
+/// One own label, and a reply to every peer's label. Neither question changes anything, and that a label is invalid is a reply too.
 pub trait KeyLookup {
     // the own label
     ghost own: { Self → List ℕ };
@@ -35,11 +35,4 @@ pub trait KeyLookup {
     fn reply(&self, peer: &[u8; 25]) -> Reply
         ensures value { result ≡ replies self.now peer.now }
         ensures size { SecretSize (replies self.now peer.now) };
-}
-
-// Whether two slices hold the same octets.
-fn same(a: &[u8], b: &[u8]) -> bool
-    ensures value { result ≡ bytes_eq a.now b.now }
-{
-    a == b
 }

@@ -17,10 +17,7 @@ use lookup::{KeyLookup, Reply};
 pub fn secret<K: KeyLookup>(key: &K, peer: &[u8; 25]) -> Option<[u8; 24]>
     ensures value { result ≡ secret_in (K.KeyLookup.replies key.now peer.now) }
 {
-    match key.reply(peer) {
-        Reply::Secret(z) => Some(z),
-        Reply::Invalid => None,
-    }
+    key.reply(peer).ok()
 }
 
 /// The reply of a record's octets to a peer.
@@ -43,6 +40,7 @@ pub fn meet(d: u32, e: u32) -> Result<Reply, Fault>
 #[cfg(test)]
 mod tests {
     use super::*;
+    use lookup::Invalid;
     use std::test::Fail;
 
     // Whether a refusal has the number 5, the host's layer and the place 0.
@@ -82,14 +80,16 @@ mod tests {
     // A record of two rows for the label of threes, each with its validity and the octet of its secret.
     fn two_rows(first: (u8, u8), second: (u8, u8)) -> [u8; 125] {
         let mut octets = [9; 125];
-        for i in 25..125 {
-            let (validity, z) = if i < 75 { first } else { second };
-            octets[i] = match i % 50 {
-                0 => validity,
-                1..25 => z,
-                _ => 3,
-            };
-        }
+        octets[25..75].copy_from_slice(&row(first));
+        octets[75..125].copy_from_slice(&row(second));
+        octets
+    }
+
+    // A row for the label of threes.
+    fn row((validity, z): (u8, u8)) -> [u8; 50] {
+        let mut octets = [z; 50];
+        octets[0..25].fill(3);
+        octets[25] = validity;
         octets
     }
 
@@ -116,10 +116,10 @@ mod tests {
 
     #[test]
     fn only_one_is_valid(rt: HostRuntime) -> Result<(), Fail> {
-        assert!(rt; ask(&two_rows((0, 7), (1, 8)), &[3; 25])? == Reply::Invalid);
-        assert!(rt; ask(&two_rows((2, 7), (1, 8)), &[3; 25])? == Reply::Invalid);
-        assert!(rt; ask(&two_rows((255, 7), (1, 8)), &[3; 25])? == Reply::Invalid);
-        assert!(rt; ask(&two_rows((1, 7), (0, 8)), &[3; 25])? == Reply::Secret([7; 24]));
+        assert!(rt; ask(&two_rows((0, 7), (1, 8)), &[3; 25])? == Err(Invalid::Label));
+        assert!(rt; ask(&two_rows((2, 7), (1, 8)), &[3; 25])? == Err(Invalid::Label));
+        assert!(rt; ask(&two_rows((255, 7), (1, 8)), &[3; 25])? == Err(Invalid::Label));
+        assert!(rt; ask(&two_rows((1, 7), (0, 8)), &[3; 25])? == Ok([7; 24]));
         Ok(())
     }
 
@@ -144,11 +144,9 @@ mod tests {
 
     #[test]
     fn shared_secrets(rt: HostRuntime) -> Result<(), Fail> {
-        assert!(rt; meet(2, 3)? == Reply::Secret(padded([0, 1, 203, 145])));
-        assert!(rt; meet(3, 2)? == Reply::Secret(padded([0, 1, 203, 145])));
-        assert!(rt;
-            meet(1_234_567_890, 2_000_000_011)? == Reply::Secret(padded([24, 242, 115, 174]))
-        );
+        assert!(rt; meet(2, 3)? == Ok(padded([0, 1, 203, 145])));
+        assert!(rt; meet(3, 2)? == Ok(padded([0, 1, 203, 145])));
+        assert!(rt; meet(1_234_567_890, 2_000_000_011)? == Ok(padded([24, 242, 115, 174])));
         Ok(())
     }
 

@@ -2,29 +2,20 @@
 #![tactic(auto)]
 
 use anyhow::anyhow;
-use sessions::Session;
+use recorded::{Line, Problem, Session, Stop, Suite, Tally, fixed, octets, parse_line};
+use sessions::Comparison;
 use std::fs;
 use text::split_word;
 
 mod replay;
 mod sessions;
 
-/// How many figures were compared, and how many differ.
-#[derive(Clone, Copy)]
-pub(crate) struct Tally {
-    compared: u32,
-    wrong: u32,
-}
-
 fn main(rt: HostRuntime) -> anyhow::Result<()> {
     run(&rt)
 }
 
 fn run(rt: &HostRuntime) -> anyhow::Result<()> {
-    let mut tally = Tally {
-        compared: 0,
-        wrong: 0,
-    };
+    let mut tally = Tally::new();
     compare_sessions(rt, &mut tally)?;
     let Tally { compared, wrong } = tally;
     println!(rt; "{compared} compared, {wrong} differ")?;
@@ -34,51 +25,100 @@ fn run(rt: &HostRuntime) -> anyhow::Result<()> {
     Ok(())
 }
 
-/// Compares the whole sessions.
+/// Compares each session when the next one begins, or the file ends.
 fn compare_sessions(rt: &HostRuntime, tally: &mut Tally) -> anyhow::Result<()> {
     let lines = fs::read_to_string(rt, "sessions.txt")?;
-    let mut session = Session::none(rt);
+    let mut number = 0usize;
+    let mut session = Session::new(rt.alloc(), Suite::Aes);
     for line in lines.lines() {
-        session.line(rt, line.as_bytes(), tally)?;
+        match read(rt, &session, line.as_bytes()) {
+            Ok(None) => {}
+            Ok(Some(Line::Cipher(suite))) => {
+                compare(rt, number, &session, tally)?;
+                number = number.saturating_add(1);
+                session = Session::new(rt.alloc(), suite);
+            }
+            Ok(Some(line)) => session.take(line).map_err(told)?,
+            Err(Stop::Unreadable(Problem::Cipher)) => {
+                compare(rt, number, &session, tally)?;
+                return Err(unreadable(Problem::Cipher));
+            }
+            Err(stop) => return Err(told(stop)),
+        }
     }
-    session.compare(rt, tally)
+    compare(rt, number, &session, tally)
 }
 
-/// Whether a line that begins with this word gives nothing.
-pub(crate) fn is_remark(word: &[u8]) -> bool {
-    word.is_empty() || word[0] == b'#'
-}
-
-/// Writes the line of what was compared.
-pub(crate) fn report(
+/// Compares a session that is read whole; before the first one begins there is none.
+fn compare(
     rt: &HostRuntime,
-    what: &str,
-    agrees: bool,
+    number: usize,
+    session: &Session,
     tally: &mut Tally,
 ) -> anyhow::Result<()> {
-    tally.compared = tally.compared.saturating_add(1);
-    if agrees {
-        println!(rt; "{what}: agrees")?;
+    if number == 0 {
+        return Ok(());
+    }
+    let mut comparison = Comparison {
+        rt,
+        number,
+        session,
+        tally,
+    };
+    comparison.run()
+}
+
+/// What a line holds. Octets may follow a counter's sixteen, and of a line of another name the words are looked at first.
+fn read(rt: &HostRuntime, session: &Session, line: &[u8]) -> Result<Option<Line>, Stop> {
+    let (name, rest) = split_word(line);
+    let (word, _) = split_word(rest);
+    match parse_line(rt.alloc(), line) {
+        Err(Stop::Unreadable(Problem::Name)) if name.len() == 2 => {
+            let _key: [u8; 16] = fixed(rt.alloc(), word)?;
+            Err(Problem::Name.into())
+        }
+        Err(Stop::Unreadable(Problem::Name)) => {
+            let _octets = octets(rt.alloc(), word)?;
+            Err(of_a_packet(session, Problem::Name).into())
+        }
+        Err(Stop::Unreadable(Problem::Length)) if name == b"counter".as_slice() => {
+            let octets = octets(rt.alloc(), word)?;
+            match octets.first_chunk::<16>() {
+                Some(counter) => Ok(Some(Line::Counter(*counter))),
+                None => Err(of_a_packet(session, Problem::Short).into()),
+            }
+        }
+        read => read,
+    }
+}
+
+/// What is wrong with a line that speaks of a packet: first of all, that there is none.
+fn of_a_packet(session: &Session, problem: Problem) -> Problem {
+    if session.packets.is_empty() {
+        Problem::Payload
     } else {
-        tally.wrong = tally.wrong.saturating_add(1);
-        println!(rt; "{what}: DIFFERS")?;
-    }
-    Ok(())
-}
-
-/// The octets of a word.
-pub(crate) fn octets(rt: &HostRuntime, word: &[u8]) -> anyhow::Result<Vec<u8>> {
-    match text::octets(rt.alloc(), word)? {
-        Some(octets) => Ok(octets),
-        None => Err(anyhow!("\"a word of a session is not hexadecimal\"")),
+        problem
     }
 }
 
-/// The octets of a word that has N of them.
-pub(crate) fn fixed<const N: usize>(rt: &HostRuntime, word: &[u8]) -> anyhow::Result<[u8; N]> {
-    let octets = octets(rt, word)?;
-    match <[u8; N]>::try_from(octets.as_slice()) {
-        Ok(octets) => Ok(octets),
-        Err(_) => Err(anyhow!("\"a word of a session has another length\"")),
+/// Why something was not read, in words for people.
+fn told(stop: Stop) -> anyhow::Error {
+    match stop {
+        Stop::Memory(error) => anyhow::Error::from(error),
+        Stop::Unreadable(problem) => unreadable(problem),
+    }
+}
+
+/// What is wrong with a file, in words for people.
+// `vectors` words three of them otherwise, so that one Display in `recorded` cannot say them for both.
+pub(crate) fn unreadable(problem: Problem) -> anyhow::Error {
+    match problem {
+        Problem::Octets => anyhow!("\"a word of a session is not hexadecimal\""),
+        Problem::Length => anyhow!("\"a word of a session has another length\""),
+        Problem::Number => anyhow!("\"a number of a session is not a number\""),
+        Problem::Cipher => anyhow!("\"the cipher of a session is another\""),
+        Problem::Name => anyhow!("\"a line of a session has another name\""),
+        Problem::Short => anyhow!("\"a message of a session is too short\""),
+        Problem::Payload => anyhow!("\"a packet of a session has no payload\""),
     }
 }

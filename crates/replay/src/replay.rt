@@ -1,16 +1,12 @@
 //! Whole sessions through both ends. Each call is given what the file has, and what the end does is compared with the file.
-use crate::sessions::{OwnKey, Packet, Session};
 use channel::{Answered, Fob, Invited, Mixer, Nonce, Open, Proved, Role, Ticket};
 use cipher::{BlockCipher, WORKSPACE};
 use fault::Fault;
 use lookup::KeyLookup;
-use lookup::bench::BenchKey;
-use lookup::chip::ChipRecord;
-use message::PAYLOAD;
+use lookup::either::EitherKey;
+use message::{ACT, PACKET, PAYLOAD, VERIFY};
+use recorded::{OwnKey, Packet, Session};
 use std::fmt;
-
-/// The longest packet.
-const PACKET: usize = 4117;
 
 /// A call whose outcome the file has; sealing and unsealing with the packet's number.
 #[derive(Clone, Copy)]
@@ -45,22 +41,6 @@ pub(crate) struct Difference {
 }
 
 impl Call {
-    fn name(self) -> &'static str {
-        match self {
-            Call::Key(Role::Fob) => "key of the fob",
-            Call::Key(Role::Mixer) => "key of the mixer",
-            Call::Invite => "invite",
-            Call::Answer => "answer",
-            Call::Prove => "prove",
-            Call::Confirm => "confirm",
-            Call::Finish => "finish",
-            Call::Seal(_) => "seal of packet",
-            Call::Unseal(_) => "unseal of packet",
-            Call::Close(Role::Fob) => "close of the fob",
-            Call::Close(Role::Mixer) => "close of the mixer",
-        }
-    }
-
     fn differs(self, cause: Cause) -> Difference {
         Difference { call: self, cause }
     }
@@ -94,36 +74,33 @@ impl Call {
     }
 }
 
-impl Cause {
-    fn words(self) -> &'static str {
-        match self {
-            Cause::Missing => "the file has none",
-            Cause::Refused(_) => "refused",
-            Cause::Octet(_) => "another octet",
-            Cause::Number => "another number",
-            Cause::Counter => "another counter",
-            Cause::Label => "another label",
-        }
-    }
-}
-
 impl fmt::Display for Call {
     fn fmt<W: fmt::Write>(&self, f: &mut fmt::Formatter<W>) -> fmt::Result {
-        let name = self.name();
         match *self {
-            Call::Seal(number) | Call::Unseal(number) => write!(f, "{name} {number}"),
-            _ => f.write_str(name),
+            Call::Key(Role::Fob) => f.write_str("key of the fob"),
+            Call::Key(Role::Mixer) => f.write_str("key of the mixer"),
+            Call::Invite => f.write_str("invite"),
+            Call::Answer => f.write_str("answer"),
+            Call::Prove => f.write_str("prove"),
+            Call::Confirm => f.write_str("confirm"),
+            Call::Finish => f.write_str("finish"),
+            Call::Seal(number) => write!(f, "seal of packet {number}"),
+            Call::Unseal(number) => write!(f, "unseal of packet {number}"),
+            Call::Close(Role::Fob) => f.write_str("close of the fob"),
+            Call::Close(Role::Mixer) => f.write_str("close of the mixer"),
         }
     }
 }
 
 impl fmt::Display for Cause {
     fn fmt<W: fmt::Write>(&self, f: &mut fmt::Formatter<W>) -> fmt::Result {
-        let words = self.words();
         match *self {
+            Cause::Missing => f.write_str("the file has none"),
             Cause::Refused(fault) => write!(f, "{fault}"),
-            Cause::Octet(place) => write!(f, "{words} at {place}"),
-            _ => f.write_str(words),
+            Cause::Octet(place) => write!(f, "another octet at {place}"),
+            Cause::Number => f.write_str("another number"),
+            Cause::Counter => f.write_str("another counter"),
+            Cause::Label => f.write_str("another label"),
         }
     }
 }
@@ -137,16 +114,11 @@ impl fmt::Display for Difference {
 
 /// The first place where octets differ, or one of them ends.
 fn first_other(written: &[u8], expected: &[u8]) -> Option<usize> {
-    for (i, octet) in written.iter().enumerate() {
-        match expected.get(i) {
-            Some(other) if *other == *octet => {}
-            _ => return Some(i),
-        }
+    let differs = written.iter().zip(expected).position(|(a, b)| a != b);
+    if written.len() == expected.len() {
+        return differs;
     }
-    if expected.len() > written.len() {
-        return Some(written.len());
-    }
-    None
+    differs.or(Some(written.len().min(expected.len())))
 }
 
 /// Takes a session through both ends, up to the first difference.
@@ -159,19 +131,12 @@ pub(crate) fn replay<C: BlockCipher>(session: &Session) -> Result<(), Difference
 fn replay_end<C: BlockCipher>(
     session: &Session,
     role: Role,
-    own: &OwnKey,
+    own: &Option<OwnKey>,
 ) -> Result<(), Difference> {
-    match own {
-        OwnKey::None => Err(Call::Key(role).differs(Cause::Missing)),
-        OwnKey::Bench(d) => match BenchKey::new(*d) {
-            Err(fault) => Err(Call::Key(role).refused(fault)),
-            Ok(key) => replay_with::<C, BenchKey>(session, role, key),
-        },
-        OwnKey::Chip(octets) => match ChipRecord::new(octets) {
-            Err(fault) => Err(Call::Key(role).refused(fault)),
-            Ok(key) => replay_with::<C, ChipRecord<'_>>(session, role, key),
-        },
-    }
+    let call = Call::Key(role);
+    let own = own.as_ref().ok_or(call.differs(Cause::Missing))?;
+    let key = own.make().map_err(|fault| call.refused(fault))?;
+    replay_with::<C, EitherKey<'_>>(session, role, key)
 }
 
 /// Takes a session through one end with its own key.
@@ -189,10 +154,10 @@ fn replay_with<C: BlockCipher, K: KeyLookup + Drop>(
 /// The fob of a session, from its key to its close.
 fn fob<C: BlockCipher, K: KeyLookup + Drop>(session: &Session, key: K) -> Result<(), Difference> {
     let proved = prove(session, invite::<C, K>(session, key)?)?;
-    match proved.finish(&session.vfy_res, &mut [0; WORKSPACE]) {
-        Err(refused) => Err(Call::Finish.refused(refused.fault)),
-        Ok((end, ticket)) => open_end(session, Call::Finish, end, ticket, &session.act_req),
-    }
+    let (end, ticket) = proved
+        .finish(&session.vfy_res, &mut [0; WORKSPACE])
+        .map_err(|refused| Call::Finish.refused(refused.fault))?;
+    open_end(session, Call::Finish, end, ticket, &session.act_req)
 }
 
 fn invite<C: BlockCipher, K: KeyLookup + Drop>(
@@ -200,42 +165,36 @@ fn invite<C: BlockCipher, K: KeyLookup + Drop>(
     key: K,
 ) -> Result<Invited<C, K>, Difference> {
     let nonce = Nonce::new(session.nonces.fob);
-    let mut output = [0; 40];
-    match Fob::<C>::new(session.identities).invite(key, nonce, &mut output) {
-        Err(refused) => Err(Call::Invite.refused(refused.fault)),
-        Ok(invited) => {
-            Call::Invite.wrote(&output, &session.act_req)?;
-            Ok(invited)
-        }
-    }
+    let mut output = [0; ACT];
+    let invited = Fob::<C>::new(session.identities)
+        .invite(key, nonce, &mut output)
+        .map_err(|refused| Call::Invite.refused(refused.fault))?;
+    Call::Invite.wrote(&output, &session.act_req)?;
+    Ok(invited)
 }
 
 fn prove<C: BlockCipher, K: KeyLookup + Drop>(
     session: &Session,
     invited: Invited<C, K>,
 ) -> Result<Proved<C, K>, Difference> {
-    let mut output = [0; 15];
-    match invited.prove(&session.act_res, &mut [0; WORKSPACE], &mut output) {
-        Err(refused) => Err(Call::Prove.refused(refused.fault)),
-        Ok(proved) => {
-            Call::Prove.wrote(&output, &session.vfy_req)?;
-            Ok(proved)
-        }
-    }
+    let mut output = [0; VERIFY];
+    let proved = invited
+        .prove(&session.act_res, &mut [0; WORKSPACE], &mut output)
+        .map_err(|refused| Call::Prove.refused(refused.fault))?;
+    Call::Prove.wrote(&output, &session.vfy_req)?;
+    Ok(proved)
 }
 
 /// The mixer of a session, from its key to its close.
 fn mixer<C: BlockCipher, K: KeyLookup + Drop>(session: &Session, key: K) -> Result<(), Difference> {
     let answered = answer::<C, K>(session, key)?;
-    let mut output = [0; 15];
-    match answered.confirm(&session.vfy_req, &mut [0; WORKSPACE], &mut output) {
-        Err(refused) => Err(Call::Confirm.refused(refused.fault)),
-        Ok((end, ticket)) => {
-            let went = open_end(session, Call::Confirm, end, ticket, &session.act_res);
-            Call::Confirm.wrote(&output, &session.vfy_res)?;
-            went
-        }
-    }
+    let mut output = [0; VERIFY];
+    let (end, ticket) = answered
+        .confirm(&session.vfy_req, &mut [0; WORKSPACE], &mut output)
+        .map_err(|refused| Call::Confirm.refused(refused.fault))?;
+    let went = open_end(session, Call::Confirm, end, ticket, &session.act_res);
+    Call::Confirm.wrote(&output, &session.vfy_res)?;
+    went
 }
 
 fn answer<C: BlockCipher, K: KeyLookup + Drop>(
@@ -244,36 +203,33 @@ fn answer<C: BlockCipher, K: KeyLookup + Drop>(
 ) -> Result<Answered<C, K>, Difference> {
     let nonce = Nonce::new(session.nonces.mixer);
     let end = Mixer::<C>::new(session.identities);
-    let mut output = [0; 40];
-    match end.answer(
-        key,
-        nonce,
-        &session.act_req,
-        &mut [0; WORKSPACE],
-        &mut output,
-    ) {
-        Err(refused) => Err(Call::Answer.refused(refused.fault)),
-        Ok(answered) => {
-            Call::Answer.wrote(&output, &session.act_res)?;
-            Ok(answered)
-        }
-    }
+    let mut output = [0; ACT];
+    let answered = end
+        .answer(
+            key,
+            nonce,
+            &session.act_req,
+            &mut [0; WORKSPACE],
+            &mut output,
+        )
+        .map_err(|refused| Call::Answer.refused(refused.fault))?;
+    Call::Answer.wrote(&output, &session.act_res)?;
+    Ok(answered)
 }
 
 /// An open end, to its close; `by` is the call that opened it, and `own` its message with a label.
 fn open_end<C: BlockCipher, K: KeyLookup + Drop>(
     session: &Session,
     by: Call,
-    end: Open<C, K>,
+    mut end: Open<C, K>,
     ticket: Ticket,
     own: &[u8],
 ) -> Result<(), Difference> {
-    let mut end = end;
     let went = packets(session, by, &mut end);
     let call = Call::Close(end.role());
     let (key, number) = end.close(ticket);
     went?;
-    if number != session.last_number() {
+    if number != session.packets.last().map_or(0, |packet| packet.number) {
         return Err(call.differs(Cause::Number));
     }
     if own.get(3..28) != Some(&key.label()[0..25]) {
@@ -304,7 +260,12 @@ fn pass<C: BlockCipher, K: KeyLookup>(
         (Role::Fob, 1) | (Role::Mixer, 0) => seal(end, packet)?,
         _ => unseal(end, packet)?,
     };
-    call.left(end, packet.number, packet.counter)
+    call.left(end, packet.number, packet.counter.unwrap_or(0))
+}
+
+/// The message of a packet, empty where the file has none.
+fn sent(packet: &Packet) -> &[u8] {
+    packet.message.as_deref().unwrap_or(&[])
 }
 
 /// Seals a payload of the file.
@@ -314,13 +275,11 @@ fn seal<C: BlockCipher, K: KeyLookup>(
 ) -> Result<Call, Difference> {
     let call = Call::Seal(packet.number);
     let mut output = [0; PACKET];
-    match end.seal(&packet.payload, &mut [0; WORKSPACE], &mut output) {
-        Err(fault) => Err(call.refused(fault)),
-        Ok(size) => {
-            call.wrote(output.get(0..size).unwrap_or(&[]), &packet.message)?;
-            Ok(call)
-        }
-    }
+    let size = end
+        .seal(&packet.payload, &mut [0; WORKSPACE], &mut output)
+        .map_err(|fault| call.refused(fault))?;
+    call.wrote(output.get(0..size).unwrap_or(&[]), sent(packet))?;
+    Ok(call)
 }
 
 /// Unseals a packet of the file.
@@ -330,14 +289,12 @@ fn unseal<C: BlockCipher, K: KeyLookup>(
 ) -> Result<Call, Difference> {
     let call = Call::Unseal(packet.number);
     let mut output = [0; PAYLOAD];
-    match end.unseal(&packet.message, &mut [0; WORKSPACE], &mut output) {
-        Err(fault) => Err(call.refused(fault)),
-        Ok((size, number)) => {
-            if number != packet.number {
-                return Err(call.differs(Cause::Number));
-            }
-            call.wrote(output.get(0..size).unwrap_or(&[]), &packet.payload)?;
-            Ok(call)
-        }
+    let (size, number) = end
+        .unseal(sent(packet), &mut [0; WORKSPACE], &mut output)
+        .map_err(|fault| call.refused(fault))?;
+    if number != packet.number {
+        return Err(call.differs(Cause::Number));
     }
+    call.wrote(output.get(0..size).unwrap_or(&[]), &packet.payload)?;
+    Ok(call)
 }

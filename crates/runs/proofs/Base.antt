@@ -4,8 +4,8 @@ use Rattle.std.proofs.lemmas.List.{same_from_push}
 use Rattle.keyed.specs.Derivation.{split, master_string, encryption_string, integrity_string}
 use Rattle.keyed.specs.Keystream.{blocks, moved}
 use Rattle.keyed.specs.Strings.{three, packet}
-use Rattle.channel.specs.declared.Role.{Role}
-use Rattle.channel.specs.declared.Role.TheVariants.{Fob as AtFob, Mixer as AtMixer}
+use Rattle.ends.specs.declared.Role.{Role}
+use Rattle.ends.specs.declared.Role.TheVariants.{Fob as AtFob, Mixer as AtMixer}
 use Rattle.runs.specs.Law.{other, ◌∈◌, when}
 use Rattle.runs.proofs.Model.{Octets, parity}
 

@@ -1,7 +1,7 @@
 -- What holds of both ends after each call, had none closed.
 use Rattle.std.proofs.Common.{◌≡◌, ℕ, ◌^◌, ◌<◌, List, [], ◌∷◌, ◌∙◌, subst}
-use Rattle.channel.specs.declared.Role.{Role}
-use Rattle.channel.specs.declared.Role.TheVariants.{Fob as AtFob, Mixer as AtMixer}
+use Rattle.ends.specs.declared.Role.{Role}
+use Rattle.ends.specs.declared.Role.TheVariants.{Fob as AtFob, Mixer as AtMixer}
 use Rattle.keyed.specs.Strings.{packet}
 use Rattle.runs.specs.History.{Event, offers, reads, proves, opens, sends, accepts, seals, unseals, Entry, ◌did◌, logged}
 use Rattle.runs.specs.Law.{other, ◌∈◌, sealed, unsealed, NoncesAsSent}

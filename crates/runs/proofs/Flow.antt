@@ -1,7 +1,7 @@
 -- The packets of an open channel: both ends stand level, or one is a packet ahead.
 use Rattle.std.proofs.Common.{◌≡◌, ℕ, ◌+◌, ◌*◌, ◌%◌, ◌^◌, ◌<◌, ◌≤◌, List, [], ◌∷◌, ◌++◌, length, sym, refl, ap, ◌∙◌, subst, inl, inr, arith}
 use Rattle.keyed.specs.Keystream.{blocks, moved}
-use Rattle.channel.specs.declared.Role.{Role}
+use Rattle.ends.specs.declared.Role.{Role}
 use Rattle.runs.specs.History.{Event, offers, reads, proves, opens, sends, accepts, seals, unseals, Entry, ◌did◌, logged}
 use Rattle.runs.specs.Law.{◌∈◌, when, sealed_in, unsealed_in, sealed, unsealed, NoBlockTwice, UpToLast}
 use Rattle.runs.proofs.Model.{Octets, parity, last_number}

@@ -1,13 +1,12 @@
 -- What the proof keeps of an end: what its keys come from, how far it has come, and the steps that it can take.
 use Rattle.std.proofs.Common.{◌≡◌, ℕ, ◌+◌, ◌%◌, ◌<◌, ◌≤◌, List, [], ◌∷◌, length}
-use Rattle.keyed.specs.declared.derivation.Identities.{Identities}
-use Rattle.keyed.specs.declared.confirm.Confirmation.TheVariants.{Fob as OfFob, Mixer as OfMixer}
+use Rattle.keyed.specs.Told.{Identities}
 use Rattle.keyed.specs.Derivation.{seed, master_string, master_key, encryption_key, integrity_string, integrity_key, first_counter, derivation_results}
 use Rattle.keyed.specs.Strings.{confirmation, packet}
 use Rattle.keyed.specs.Keystream.{xored, moved}
 use Rattle.keyed.specs.Xcbc.{tag}
-use Rattle.channel.specs.declared.Role.{Role}
-use Rattle.channel.specs.declared.Role.TheVariants.{Fob as AtFob, Mixer as AtMixer}
+use Rattle.ends.specs.declared.Role.{Role}
+use Rattle.ends.specs.declared.Role.TheVariants.{Fob as AtFob, Mixer as AtMixer}
 use Rattle.channel.specs.declared.Fob.{Fob}
 use Rattle.channel.specs.declared.Mixer.{Mixer}
 use Rattle.runs.specs.History.{Event, offers, reads, proves, opens, sends, accepts, seals, unseals, Keyed, Lookups}
@@ -91,8 +90,8 @@ module _ {C K L : Type 0} (m : Setting C K L) where
 
   -- the string of an end's confirmation
   abbrev pub proof : Role → Inputs → Octets
-  proof AtFob s = confirmation m.pid OfFob s.identities.fob s.identities.mixer s.qa s.qb s.na s.nb
-  proof AtMixer s = confirmation m.pid OfMixer s.identities.fob s.identities.mixer s.qa s.qb s.na s.nb
+  proof AtFob s = confirmation m.pid AtFob s.identities.fob s.identities.mixer s.qa s.qb s.na s.nb
+  proof AtMixer s = confirmation m.pid AtMixer s.identities.fob s.identities.mixer s.qa s.qb s.na s.nb
 
   abbrev pub tagged : Octets → Octets → Octets
   tagged k t = tag m.cipher k t

@@ -1,7 +1,7 @@
 -- How what holds of both ends goes over to a longer log, by the end that moves.
 use Rattle.std.proofs.Common.{◌≡◌, ℕ, List, [], ◌∷◌, sym, ap, ◌∙◌}
-use Rattle.channel.specs.declared.Role.{Role}
-use Rattle.channel.specs.declared.Role.TheVariants.{Fob as AtFob, Mixer as AtMixer}
+use Rattle.ends.specs.declared.Role.{Role}
+use Rattle.ends.specs.declared.Role.TheVariants.{Fob as AtFob, Mixer as AtMixer}
 use Rattle.runs.specs.History.{Event, sends, Entry, ◌did◌, logged}
 use Rattle.runs.specs.Law.{other, ◌∈◌, NoncesAsSent}
 use Rattle.runs.proofs.Model.{Octets, Inputs, Setting, Ghost, fresh, invited, holding, opened, ke, iv}

@@ -1,15 +1,14 @@
 -- The handshake of two ends that are given each other's messages.
 use Rattle.std.proofs.Common.{◌≡◌, ℕ, ◌≤◌, List, length, take, Ok, Result, sym, refl, ap, ◌∙◌}
 use Rattle.fault.specs.declared.Fault.{Fault}
-use Rattle.keyed.specs.declared.derivation.Identities.{Identities}
+use Rattle.keyed.specs.Told.{Identities}
 use Rattle.keyed.specs.declared.derivation.SessionKeys.{SessionKeys}
-use Rattle.keyed.specs.declared.confirm.Confirmation.{Confirmation}
-use Rattle.keyed.specs.declared.confirm.Confirmation.TheVariants.{Fob as OfFob, Mixer as OfMixer}
+use Rattle.ends.specs.declared.Role.{Role}
+use Rattle.ends.specs.declared.Role.TheVariants.{Fob as AtFob, Mixer as AtMixer}
 use Rattle.keyed.specs.Derivation.{derived}
 use Rattle.keyed.specs.Strings.{confirmation}
 use Rattle.keyed.specs.Xcbc.{tag}
-use Rattle.lookup.specs.declared.Reply.{Reply}
-use Rattle.lookup.specs.declared.Reply.TheVariants.{Secret}
+use Rattle.lookup.specs.Replies.{Reply}
 use Rattle.message.specs.declared.Direction.TheVariants.{Request, Response}
 use Rattle.message.specs.Reading.{checked}
 use Rattle.channel.specs.declared.Nonce.{Nonce}
@@ -54,7 +53,7 @@ proved_of i qa qb na nb s = record { session = session_of i.identities i.key qa 
 module _ {C K : Type 0} (pid : ℕ) (e : List ℕ → List ℕ → List ℕ) (own : K → List ℕ) (replies : K → List ℕ → Reply) where
   answer_passes :
       {m qa na z : List ℕ} (x : Mixer C) (k : K) (n : Nonce) (w o : List ℕ) → 256 ≤ length w → 40 ≤ length o → Acts 1 pid m qa na →
-      replies k qa ≡ Secret z → answer_check pid e own replies x k n m w o ≡ Ok (keys_of e na n.octets z x.identities)
+      replies k qa ≡ Ok z → answer_check pid e own replies x k n m w o ≡ Ok (keys_of e na n.octets z x.identities)
   answer_passes {m = m} {z = z} x k n w o hw ho a h =
       sized-passes 256 w _ hw ∙ sized-passes 40 o _ ho ∙ and_then-passes (checked 1 pid m) tt _ a.accepted
       ∙ secret_or-passes (replies k (label_in m)) z _ (ap (replies k) a.label ∙ h)
@@ -69,7 +68,7 @@ module _ {C K : Type 0} (pid : ℕ) (e : List ℕ → List ℕ → List ℕ) (ow
       ∙ acts_ap {A = Result (Answered C K) (NotStarted (Mixer C) K)} (λ q v. Ok (answering_of x k q (own k) v n.octets s)) a
 
   prove_passes :
-      {m qb nb z : List ℕ} (i : Invited C K) (w o : List ℕ) → 256 ≤ length w → 15 ≤ length o → Acts 2 pid m qb nb → replies i.key qb ≡ Secret z →
+      {m qb nb z : List ℕ} (i : Invited C K) (w o : List ℕ) → 256 ≤ length w → 15 ≤ length o → Acts 2 pid m qb nb → replies i.key qb ≡ Ok z →
       prove_check pid e own replies i m w o ≡ Ok (proof_of pid e own replies i m (keys_of e i.nonce.octets (nonce_in m) z i.identities))
   prove_passes {m = m} {z = z} i w o hw ho a h =
       sized-passes 256 w _ hw ∙ sized-passes 15 o _ ho ∙ and_then-passes (checked 2 pid m) tt _ a.accepted
@@ -86,18 +85,18 @@ module _ {C K : Type 0} (pid : ℕ) (e : List ℕ → List ℕ → List ℕ) (ow
 
 module _ {C K : Type 0} (pid : ℕ) (e : List ℕ → List ℕ → List ℕ) where
   confirm_passes :
-      {m : List ℕ} (a : Answered C K) (w o : List ℕ) → 256 ≤ length w → 15 ≤ length o → Verifies 3 pid m (confirmation_tag pid e OfFob a.session) →
-      confirm_check pid e a m w o ≡ Ok (confirmation_tag pid e OfMixer a.session)
+      {m : List ℕ} (a : Answered C K) (w o : List ℕ) → 256 ≤ length w → 15 ≤ length o → Verifies 3 pid m (confirmation_tag pid e AtFob a.session) →
+      confirm_check pid e a m w o ≡ Ok (confirmation_tag pid e AtMixer a.session)
   confirm_passes {m = m} a w o hw ho v =
       sized-passes 256 w _ hw ∙ sized-passes 15 o _ ho ∙ and_then-passes (checked 3 pid m) tt _ v.accepted
-      ∙ tag_passes (confirmation_tag pid e OfFob a.session) (tag_in m) _ _ (sym v.tagged)
+      ∙ tag_passes (confirmation_tag pid e AtFob a.session) (tag_in m) _ _ (sym v.tagged)
 
   finish_passes :
-      {m : List ℕ} (p : Proved C K) (w : List ℕ) → 256 ≤ length w → Verifies 4 pid m (confirmation_tag pid e OfMixer p.session) →
+      {m : List ℕ} (p : Proved C K) (w : List ℕ) → 256 ≤ length w → Verifies 4 pid m (confirmation_tag pid e AtMixer p.session) →
       finish_check pid e p m w ≡ Ok tt
   finish_passes {m = m} p w hw v =
       sized-passes 256 w _ hw ∙ and_then-passes (checked 4 pid m) tt _ v.accepted
-      ∙ tag_passes (confirmation_tag pid e OfMixer p.session) (tag_in m) _ _ (sym v.tagged)
+      ∙ tag_passes (confirmation_tag pid e AtMixer p.session) (tag_in m) _ _ (sym v.tagged)
 
 -- the five calls, one after another
 module _ {C K L : Type 0} (pid : ℕ) (e : List ℕ → List ℕ → List ℕ) (u : Lookups K L) (f : Fob C) (k : K) (na : Nonce) (x : Mixer C) (l : L) (nb : Nonce)
@@ -113,7 +112,7 @@ module _ {C K L : Type 0} (pid : ℕ) (e : List ℕ → List ℕ → List ℕ) (
   abbrev pub keys_by : Identities → SessionKeys
   keys_by i = keys_of e na.octets nb.octets p.secret i
 
-  abbrev pub tag_by : Confirmation → (q n : List ℕ) → Identities → List ℕ
+  abbrev pub tag_by : Role → (q n : List ℕ) → Identities → List ℕ
   tag_by c q n i = tag e (keys_of e na.octets n p.secret i).master (confirmation pid c i.fob i.mixer qa q na.octets n)
 
   abbrev pub epoch_by : Identities → Epoch
@@ -164,18 +163,18 @@ module _ {C K L : Type 0} (pid : ℕ) (e : List ℕ → List ℕ → List ℕ) (
       b.prove_space b.prove_room second_reads p.fob_secret
 
   -- each confirmation is the one that the other end works out
-  third_reads : Verifies 3 pid third (tag_by OfFob qb nb.octets x.identities)
+  third_reads : Verifies 3 pid third (tag_by AtFob qb nb.octets x.identities)
   third_reads =
       verifies_as (written-verifies Request pid b.prove_out prove_checked (λ v. v.tag) (tag_12 e whole _ _))
-      (acts_ap (λ q n. tag_by OfFob q n f.identities) second_reads ∙ ap (tag_by OfFob qb nb.octets) same)
+      (acts_ap (λ q n. tag_by AtFob q n f.identities) second_reads ∙ ap (tag_by AtFob qb nb.octets) same)
 
-  confirm_checked : confirm_check pid e answering third b.confirm_workspace b.confirm_out ≡ Ok (tag_by OfMixer qb nb.octets x.identities)
+  confirm_checked : confirm_check pid e answering third b.confirm_workspace b.confirm_out ≡ Ok (tag_by AtMixer qb nb.octets x.identities)
   confirm_checked = confirm_passes pid e answering b.confirm_workspace b.confirm_out b.confirm_space b.confirm_room third_reads
 
-  fourth_reads : Verifies 4 pid fourth (tag_by OfMixer qb nb.octets f.identities)
+  fourth_reads : Verifies 4 pid fourth (tag_by AtMixer qb nb.octets f.identities)
   fourth_reads =
       verifies_as (written-verifies Response pid b.confirm_out confirm_checked (λ v. v) (tag_12 e whole _ _))
-      (ap (tag_by OfMixer qb nb.octets) (sym same))
+      (ap (tag_by AtMixer qb nb.octets) (sym same))
 
   finish_checked : finish_check pid e proved fourth b.finish_workspace ≡ Ok tt
   finish_checked = finish_passes pid e proved b.finish_workspace b.finish_space fourth_reads

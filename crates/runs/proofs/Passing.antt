@@ -4,8 +4,8 @@ use Rattle.std.proofs.lemmas.Bool.{le-ltb, lt-leb, le-leb, eq-eqb, ne_eqb, eqb-t
 use Rattle.fault.specs.declared.Fault.{Fault}
 use Rattle.message.specs.Layout.{number_at}
 use Rattle.message.specs.Reading.{checked}
-use Rattle.channel.specs.declared.Role.{Role}
-use Rattle.channel.specs.declared.Role.TheVariants.{Fob as AtFob, Mixer as AtMixer}
+use Rattle.ends.specs.declared.Role.{Role}
+use Rattle.ends.specs.declared.Role.TheVariants.{Fob as AtFob, Mixer as AtMixer}
 use Rattle.channel.specs.declared.Epoch.{Epoch}
 use Rattle.channel.specs.declared.Open.{Open}
 use Rattle.channel.specs.Packets.{seals_at, advanced, advanced_end, data_in, tag_of, crypted, packet_tag, seal_check, seal_output, unseal_check, unseal_output}

@@ -1,7 +1,7 @@
 -- What the law says of the places of a log, event by event.
 use Rattle.std.proofs.Common.{◌≡◌, ℕ, List, [], ◌∷◌, length, sym, refl, ap, ◌∙◌, subst, inr}
-use Rattle.channel.specs.declared.Role.{Role}
-use Rattle.channel.specs.declared.Role.TheVariants.{Fob as AtFob, Mixer as AtMixer}
+use Rattle.ends.specs.declared.Role.{Role}
+use Rattle.ends.specs.declared.Role.TheVariants.{Fob as AtFob, Mixer as AtMixer}
 use Rattle.runs.specs.History.{Event, offers, reads, proves, opens, sends, accepts, seals, unseals, Entry, ◌did◌, logged}
 use Rattle.runs.specs.Law.{other, ◌∈◌, Everywhere, NoncesAsSent, Met, NoBlockTwice}
 use Rattle.runs.proofs.Model.{Octets, Setting}

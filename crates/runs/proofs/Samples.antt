@@ -1,11 +1,10 @@
 -- Two histories, computed: a handshake and packets as sent, and the same handshake with a nonce altered on the way.
-use Rattle.std.proofs.Common.{◌≡◌, ℕ, ◌+◌, ◌*◌, ◌%◌, ◌^◌, List, [], ◌∷◌, ◌++◌, get_or, replicate, refl, ap, inl, inr, arith}
+use Rattle.std.proofs.Common.{◌≡◌, ℕ, ◌+◌, ◌*◌, ◌%◌, ◌^◌, List, [], ◌∷◌, ◌++◌, get_or, replicate, refl, ap, inl, inr, arith, Ok}
 use Rattle.keyed.specs.Derivation.{split, seed, master_string, master_key, encryption_string, encryption_key, integrity_string, integrity_key, counter_string, first_counter}
 use Rattle.keyed.specs.Keystream.{counter_block, streamed, xored}
 use Rattle.keyed.specs.Strings.{confirmation, three, packet}
 use Rattle.keyed.specs.Xcbc.{xors, chain, padded, closed, key1, key2, key3, keyed_result, tag}
-use Rattle.lookup.specs.declared.Reply.TheVariants.{Secret}
-use Rattle.channel.specs.declared.Role.TheVariants.{Fob as AtFob, Mixer as AtMixer}
+use Rattle.ends.specs.declared.Role.TheVariants.{Fob as AtFob, Mixer as AtMixer}
 use Rattle.runs.specs.History.{Call, invite, answer, prove, confirm, finish, seal, unseal, history}
 use Rattle.runs.specs.Some.{Run, SomeRun, SomeRunAltered}
 use Rattle.runs.proofs.Model.{Octets}
@@ -47,9 +46,9 @@ run calls = record {
   cipher = toy;
   lookups = record {
     fob_own = λ k. replicate 25 1;
-    fob_replies = λ k q. Secret (replicate 24 7);
+    fob_replies = λ k q. Ok (replicate 24 7);
     mixer_own = λ k. replicate 25 2;
-    mixer_replies = λ k q. Secret (replicate 24 7);
+    mixer_replies = λ k q. Ok (replicate 24 7);
   };
   fob = record { identities = record { fob = replicate 10 3; mixer = replicate 10 4 }; cipher = record {} };
   mixer = record { identities = record { fob = replicate 10 3; mixer = replicate 10 4 }; cipher = record {} };

@@ -1,12 +1,12 @@
 -- Each step keeps what holds of both ends.
 use Rattle.std.proofs.Common.{◌≡◌, ℕ, ◌+◌, ◌%◌, ◌^◌, ◌<◌, ◌≤◌, List, [], ◌∷◌, ◌++◌, length, take, sym, refl, ap, ◌∙◌, subst, inl, inr, arith}
-use Rattle.keyed.specs.declared.derivation.Identities.{Identities}
+use Rattle.keyed.specs.Told.{Identities}
 use Rattle.keyed.specs.Derivation.{split, master_key, encryption_key, integrity_key, first_counter}
 use Rattle.keyed.specs.Keystream.{moved}
 use Rattle.keyed.specs.Strings.{confirmation, packet}
 use Rattle.keyed.specs.Xcbc.{keyed_result, tag}
-use Rattle.channel.specs.declared.Role.{Role}
-use Rattle.channel.specs.declared.Role.TheVariants.{Fob as AtFob, Mixer as AtMixer}
+use Rattle.ends.specs.declared.Role.{Role}
+use Rattle.ends.specs.declared.Role.TheVariants.{Fob as AtFob, Mixer as AtMixer}
 use Rattle.runs.specs.History.{Event, offers, reads, proves, opens, sends, accepts, seals, unseals, Entry, ◌did◌}
 use Rattle.runs.specs.Law.{other, ◌∈◌, Met}
 use Rattle.runs.proofs.Model.{Octets, Inputs, Setting, Ghost, fresh, invited, holding, opened, last_number, parity, label, seeded, mk, ke, ki, iv, mk_string, ki_string, proof, tagged, crypt}

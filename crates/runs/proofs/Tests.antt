@@ -4,8 +4,8 @@ use Rattle.std.specs.Str.{bytes_eq}
 use Rattle.std.proofs.lemmas.Slice.Eq.{bytes_eq-Decides}
 use Rattle.std.proofs.lemmas.Bool.{false≢true, both_ways, not-true, and_parts, or_cases}
 use Rattle.keyed.specs.Xcbc.{tag}
-use Rattle.channel.specs.declared.Role.{Role}
-use Rattle.channel.specs.declared.Role.TheVariants.{Fob as AtFob, Mixer as AtMixer}
+use Rattle.ends.specs.declared.Role.{Role}
+use Rattle.ends.specs.declared.Role.TheVariants.{Fob as AtFob, Mixer as AtMixer}
 use Rattle.runs.specs.History.{offers, reads, proves, opens, sends, accepts, seals, unseals, Entry, ◌did◌, Keyed, History}
 use Rattle.runs.specs.Law.{other, ◌∈◌, Everywhere, NoLuckyTag, NoncesAsSent}
 use Rattle.runs.proofs.Model.{Octets}

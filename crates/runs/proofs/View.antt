@@ -9,15 +9,13 @@ use Rattle.fault.specs.declared.HostCause.TheVariants.{Size}
 use Rattle.fault.specs.declared.HandshakeCause.TheVariants.{Label, Tag}
 use Rattle.fault.specs.Faults.{host_fault, handshake_fault}
 use Rattle.keyed.specs.declared.derivation.SessionKeys.{SessionKeys}
-use Rattle.keyed.specs.declared.confirm.Confirmation.TheVariants.{Fob as OfFob, Mixer as OfMixer}
 use Rattle.keyed.specs.Keystream.{moved}
-use Rattle.lookup.specs.declared.Reply.{Reply}
-use Rattle.lookup.specs.declared.Reply.TheVariants.{Secret, Invalid}
+use Rattle.lookup.specs.Replies.{Reply}
 use Rattle.message.specs.Layout.{number_at}
 use Rattle.message.specs.Reading.{checked}
 use Rattle.message.proofs.Again.{was_checked, passed, went_on}
-use Rattle.channel.specs.declared.Role.{Role}
-use Rattle.channel.specs.declared.Role.TheVariants.{Fob as AtFob, Mixer as AtMixer}
+use Rattle.ends.specs.declared.Role.{Role}
+use Rattle.ends.specs.declared.Role.TheVariants.{Fob as AtFob, Mixer as AtMixer}
 use Rattle.channel.specs.declared.Invited.{Invited}
 use Rattle.channel.specs.declared.Answered.{Answered}
 use Rattle.channel.specs.declared.Proved.{Proved}
@@ -48,8 +46,8 @@ module _ {W : Type 0} (P : Result W Fault → Type 0) (refuses : (f : Fault) →
   if_then (Err f) r h = refuses f
 
   if_secret : (reply : Reply) (next : Octets → Result W Fault) → P (next (secret_in reply)) → P (secret_or reply next)
-  if_secret (Secret z) next h = h
-  if_secret Invalid next h = refuses (handshake_fault Label 3)
+  if_secret (Ok z) next h = h
+  if_secret (Err x) next h = refuses (handshake_fault Label 3)
 
   if_same : (a b : Octets) (w : W) (f : Fault) → (a ≡ b → P (Ok w)) → P (cond (bytes_eq a b) (Ok w) (Err f))
   if_same a b w f h = cond_both (bytes_eq a b) (Ok w) (Err f) P (λ e. h ((bytes_eq-Decides a b).0 e)) (λ e. refuses f)
@@ -215,7 +213,7 @@ module _ {C K L : Type 0} (m : Setting C K L) where
       in
       let no : (f : Fault) → P (Err f) = λ f. stay_mixer (holding s) (for_tag f.layer (fob_confirmation m.pid a.session ∷ [])) in
       if_sized P no 256 w _ (if_sized P no 15 o _ (if_then P no (checked 3 m.pid t) _ λ ok.
-      if_same P no (confirmation_tag m.pid m.cipher OfFob a.session) (tag_in t) _ (handshake_fault Tag 3) λ e.
+      if_same P no (confirmation_tag m.pid m.cipher AtFob a.session) (tag_in t) _ (handshake_fault Tag 3) λ e.
       record { next = opened s 0 (iv m s); step = confirming s (tag_in t) (sym e); was = inl refl }))
   at_confirm t w o (opened s k c) = stay_mixer (opened s k c) []
 
@@ -229,7 +227,7 @@ module _ {C K L : Type 0} (m : Setting C K L) where
       in
       let no : (f : Fault) → P (Err f) = λ f. stay_fob (holding s) (for_tag f.layer (mixer_confirmation m.pid p.session ∷ [])) in
       if_sized P no 256 w _ (if_then P no (checked 4 m.pid t) _ λ ok.
-      if_same P no (confirmation_tag m.pid m.cipher OfMixer p.session) (tag_in t) tt (handshake_fault Tag 3) λ e.
+      if_same P no (confirmation_tag m.pid m.cipher AtMixer p.session) (tag_in t) tt (handshake_fault Tag 3) λ e.
       record { next = opened s 0 (iv m s); step = finishing s (tag_in t) (mixer_confirmation m.pid p.session ∷ []); was = inl refl })
   at_finish t w (opened s k c) = stay_fob (opened s k c) []
 

@@ -2,8 +2,8 @@
 use Rattle.std.proofs.Common.{◌≡◌, ℕ, ◌+◌, ◌≢◌, List, [], ◌∷◌, ◌++◌, fold, sym, refl, ◌∙◌, subst, inl, inr}
 use Rattle.keyed.specs.Keystream.{moved}
 use Rattle.keyed.specs.Strings.{packet}
-use Rattle.channel.specs.declared.Role.{Role}
-use Rattle.channel.specs.declared.Role.TheVariants.{Fob as AtFob, Mixer as AtMixer}
+use Rattle.ends.specs.declared.Role.{Role}
+use Rattle.ends.specs.declared.Role.TheVariants.{Fob as AtFob, Mixer as AtMixer}
 use Rattle.channel.specs.Packets.{seal_check, unseal_check}
 use Rattle.runs.specs.declared.FobSide.{FobSide}
 use Rattle.runs.specs.declared.FobSide.TheVariants.{Closed as ClosedFob}

@@ -5,14 +5,12 @@ use Rattle.fault.specs.declared.Layer.{Layer}
 use Rattle.fault.specs.declared.Layer.TheVariants.{Host, Message, Handshake, Channel}
 use Rattle.fault.specs.declared.HandshakeCause.TheVariants.{Tag as HandshakeTag, Label}
 use Rattle.fault.specs.declared.ChannelCause.TheVariants.{Stale, Ahead, Tag as ChannelTag}
-use Rattle.keyed.specs.declared.confirm.Confirmation.TheVariants.{Fob as OfFob, Mixer as OfMixer}
 use Rattle.keyed.specs.Derivation.{derivation_results}
 use Rattle.keyed.specs.Strings.{packet}
-use Rattle.lookup.specs.declared.Reply.{Reply}
-use Rattle.lookup.specs.declared.Reply.TheVariants.{Secret, Invalid}
+use Rattle.lookup.specs.Replies.{Reply}
 use Rattle.message.specs.Layout.{number_at}
-use Rattle.channel.specs.declared.Role.{Role}
-use Rattle.channel.specs.declared.Role.TheVariants.{Fob as AtFob, Mixer as AtMixer}
+use Rattle.ends.specs.declared.Role.{Role}
+use Rattle.ends.specs.declared.Role.TheVariants.{Fob as AtFob, Mixer as AtMixer}
 use Rattle.channel.specs.declared.Fob.{Fob}
 use Rattle.channel.specs.declared.Mixer.{Mixer}
 use Rattle.channel.specs.declared.Invited.{Invited}
@@ -74,8 +72,8 @@ idle s = record { next = s; events = []; worked = [] }
 
 -- the octets of a secret
 abbrev pub secret_in : Reply → List ℕ
-secret_in (Secret z) = z
-secret_in Invalid = []
+secret_in (Ok z) = z
+secret_in (Err x) = []
 
 -- a tag was checked where the call was accepted, or refused for the tag
 abbrev pub for_tag : Layer → List Keyed → List Keyed
@@ -111,10 +109,10 @@ derivation e s z = derivation_results e s.nonces.fob s.nonces.mixer s.identities
 
 -- the keyed results behind the two confirmations
 abbrev pub fob_confirmation : {K : Type 0} → ℕ → Session K → Keyed
-fob_confirmation pid s = (s.keys.master, confirmation_of pid OfFob s)
+fob_confirmation pid s = (s.keys.master, confirmation_of pid AtFob s)
 
 abbrev pub mixer_confirmation : {K : Type 0} → ℕ → Session K → Keyed
-mixer_confirmation pid s = (s.keys.master, confirmation_of pid OfMixer s)
+mixer_confirmation pid s = (s.keys.master, confirmation_of pid AtMixer s)
 
 module _ {C K : Type 0} (pid : ℕ) (e : List ℕ → List ℕ → List ℕ) (own : K → List ℕ) (replies : K → List ℕ → Reply) where
   -- answer reads a label and a nonce, derives, and puts its own on the air
@@ -136,7 +134,7 @@ module _ {C K : Type 0} (pid : ℕ) (e : List ℕ → List ℕ → List ℕ) (ow
   abbrev pub after_prove : List ℕ → Result (Proved C K) (Refused (Invited C K)) → Done (FobSide C K)
   after_prove m (Ok p) = record {
     next = ProvedFob p;
-    events = sends (confirmation_tag pid e OfFob p.session) ∷ proves ∷ reads (label_in m) (nonce_in m) ∷ [];
+    events = sends (confirmation_tag pid e AtFob p.session) ∷ proves ∷ reads (label_in m) (nonce_in m) ∷ [];
     worked = fob_confirmation pid p.session ∷ derivation e p.session (secret_in (replies p.session.key (label_in m)));
   }
   after_prove m (Err r) = idle (InvitedFob r.end)
@@ -153,7 +151,7 @@ module _ {C K : Type 0} (pid : ℕ) (e : List ℕ → List ℕ → List ℕ) whe
   abbrev pub after_confirm : Answered C K → List ℕ → Result (List ℕ) Fault → Result (Open C K × Ticket) (Refused (Answered C K)) → Done (MixerSide C K)
   after_confirm a m c (Ok r) = record {
     next = OpenMixer r.0 r.1;
-    events = sends (confirmation_tag pid e OfMixer a.session) ∷ opens ∷ accepts (tag_in m) ∷ [];
+    events = sends (confirmation_tag pid e AtMixer a.session) ∷ opens ∷ accepts (tag_in m) ∷ [];
     worked = mixer_confirmation pid a.session ∷ checked_tag c (fob_confirmation pid a.session ∷ []);
   }
   after_confirm a m c (Err r) = record { next = AnsweredMixer r.end; events = []; worked = checked_tag c (fob_confirmation pid a.session ∷ []) }

@@ -3,8 +3,8 @@ use Rattle.std.specs.Prelude.{◌≡◌, ℕ, ◌+◌, ◌%◌, ◌^◌, ◌<◌
 use Rattle.keyed.specs.declared.derivation.SessionKeys.{SessionKeys}
 use Rattle.keyed.specs.Keystream.{blocks}
 use Rattle.keyed.specs.Xcbc.{tag}
-use Rattle.channel.specs.declared.Role.{Role}
-use Rattle.channel.specs.declared.Role.TheVariants.{Fob as AtFob, Mixer as AtMixer}
+use Rattle.ends.specs.declared.Role.{Role}
+use Rattle.ends.specs.declared.Role.TheVariants.{Fob as AtFob, Mixer as AtMixer}
 use Rattle.channel.specs.declared.Fob.{Fob}
 use Rattle.channel.specs.declared.Mixer.{Mixer}
 use Rattle.runs.specs.declared.FobSide.{FobSide}

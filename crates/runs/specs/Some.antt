@@ -1,7 +1,7 @@
 -- The law of runs speaks of something: in some history without a lucky tag both ends open and payloads go both ways. And its condition on
 -- the nonces is needed: where one is altered on the way, another payload can come out.
 use Rattle.std.specs.Prelude.{◌≡◌, ℕ, ◌≢◌, List, [], ◌∷◌, length}
-use Rattle.channel.specs.declared.Role.TheVariants.{Fob as AtFob, Mixer as AtMixer}
+use Rattle.ends.specs.declared.Role.TheVariants.{Fob as AtFob, Mixer as AtMixer}
 use Rattle.channel.specs.declared.Fob.{Fob}
 use Rattle.channel.specs.declared.Mixer.{Mixer}
 use Rattle.runs.specs.History.{Call, opens, unseals, ◌did◌, History, Lookups, history}

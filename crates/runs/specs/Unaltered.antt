@@ -2,9 +2,8 @@
 use Rattle.std.specs.Prelude.{◌≡◌, ℕ, ◌+◌, ◌≤◌, List, [], ◌∷◌, length, take, Ok, Err}
 use Rattle.fault.specs.declared.HostCause.TheVariants.{LastNumber}
 use Rattle.fault.specs.Faults.{host_fault}
-use Rattle.lookup.specs.declared.Reply.TheVariants.{Secret}
-use Rattle.channel.specs.declared.Role.{Role}
-use Rattle.channel.specs.declared.Role.TheVariants.{Fob as AtFob, Mixer as AtMixer}
+use Rattle.ends.specs.declared.Role.{Role}
+use Rattle.ends.specs.declared.Role.TheVariants.{Fob as AtFob, Mixer as AtMixer}
 use Rattle.channel.specs.declared.Nonce.{Nonce}
 use Rattle.channel.specs.declared.Fob.{Fob}
 use Rattle.channel.specs.declared.Mixer.{Mixer}
@@ -25,8 +24,8 @@ pub record Paired {K L : Type 0} (u : Lookups K L) (k : K) (l : L) : Type 0 wher
   pub fob_25 : length (u.fob_own k) ≡ 25
   pub mixer_25 : length (u.mixer_own l) ≡ 25
   pub secret : List ℕ
-  pub fob_secret : u.fob_replies k (u.mixer_own l) ≡ Secret secret
-  pub mixer_secret : u.mixer_replies l (u.fob_own k) ≡ Secret secret
+  pub fob_secret : u.fob_replies k (u.mixer_own l) ≡ Ok secret
+  pub mixer_secret : u.mixer_replies l (u.fob_own k) ≡ Ok secret
 
 -- the buffers that the five calls of a handshake are lent, at least as large as needed
 pub record Buffers : Type 0 where

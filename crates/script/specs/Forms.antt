@@ -10,16 +10,6 @@ use Rattle.script.specs.Views.{StatementView, cipher, identities, key, nonce, cu
 use Rattle.script.specs.Parts.{and_then, into, expect, is_word, ended, last_number, last_octets, sized_octets, last_sized, who_in, last_cipher, last_key}
 use Rattle.script.specs.Calls.{fob_call, mixer_call}
 
--- the first word of a statement that changes what the next call is given
-abbrev pub change_in : List ℕ → Result Verb Problem
-change_in w =
-    cond (is_word "cut" w) (Ok Cut)
-    (cond (is_word "alter" w) (Ok Alter)
-    (cond (is_word "append" w) (Ok Append)
-    (cond (is_word "workspace" w) (Ok Workspace)
-    (cond (is_word "output" w) (Ok Output)
-    (Err NoVerb)))))
-
 -- the first word of a statement
 abbrev pub verb_in : List ℕ → Result Verb Problem
 verb_in w =
@@ -27,11 +17,16 @@ verb_in w =
     (cond (is_word "identities" w) (Ok Identities)
     (cond (is_word "key" w) (Ok Key)
     (cond (is_word "nonce" w) (Ok Nonce)
+    (cond (is_word "cut" w) (Ok Cut)
+    (cond (is_word "alter" w) (Ok Alter)
+    (cond (is_word "append" w) (Ok Append)
+    (cond (is_word "workspace" w) (Ok Workspace)
+    (cond (is_word "output" w) (Ok Output)
     (cond (is_word "fob" w) (Ok Fob)
     (cond (is_word "mixer" w) (Ok Mixer)
     (cond (is_word "lose" w) (Ok Lose)
     (cond (is_word "pass" w) (Ok Pass)
-    (change_in w))))))))
+    (Err NoVerb)))))))))))))
 
 -- WHO HEX HEX, ten octets each
 abbrev pub identities_in : List ℕ → Result StatementView Problem

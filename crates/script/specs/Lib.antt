@@ -3,4 +3,5 @@ pub mod Parts
 pub mod Calls
 pub mod Forms
 pub mod Lines
+pub mod Names
 pub mod Expected

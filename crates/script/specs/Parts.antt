@@ -57,12 +57,16 @@ who_in w =
     (cond (is_word "mixer" w) (Ok Mixer)
     (Err NoWho))
 
--- aes or speck
-abbrev pub last_cipher : List ℕ → Result CipherName Problem
-last_cipher s =
-    cond (is_word "aes" (word_of s)) (ended (rest_of s) Aes)
-    (cond (is_word "speck" (word_of s)) (ended (rest_of s) Speck)
+-- aes or speck, in a word of its own
+abbrev pub cipher_in : List ℕ → Result CipherName Problem
+cipher_in w =
+    cond (is_word "aes" w) (Ok Aes)
+    (cond (is_word "speck" w) (Ok Speck)
     (Err Cipher))
+
+-- aes or speck, and no word after it
+abbrev pub last_cipher : List ℕ → Result CipherName Problem
+last_cipher s = and_then (cipher_in (word_of s)) (ended (rest_of s))
 
 -- last, message NUMBER or octets HEX
 abbrev pub last_source : List ℕ → Result SourceView Problem

@@ -1,8 +1,5 @@
 -- What was read, with octets as lists of numbers.
-use Rattle.std.specs.Prelude.{◌≡◌, ℕ, List, Ok, Err, vec_items, Result}
-use Rattle.script.specs.declared.Problem.{Problem}
-use Rattle.script.specs.declared.parts.Stop.{Stop}
-use Rattle.script.specs.declared.parts.Stop.TheVariants.{Memory, At}
+use Rattle.std.specs.Prelude.{ℕ, List, vec_items}
 use Rattle.script.specs.declared.Who.{Who}
 use Rattle.script.specs.declared.CipherName.{CipherName}
 use Rattle.script.specs.declared.Source.{Source}
@@ -15,12 +12,6 @@ use Rattle.script.specs.declared.Call.{Call}
 use Rattle.script.specs.declared.Call.TheVariants.{Invite, Answer, Prove, Confirm, Finish, Seal, Unseal, Close}
 use Rattle.script.specs.declared.Statement.{Statement}
 use Rattle.script.specs.declared.Statement.TheVariants.{Cipher, Identities, Key, Nonce, Cut, Alter, Append, Workspace, Output, Call as CallOf, Lose, Pass}
-
--- what was read is what is meant, part or problem; nothing is said where there was no memory
-abbrev pub Reads : {A B : Type 0} → (A → B) → Result A Stop → Result B Problem → Type 0
-Reads view (Ok a) m = m ≡ Ok (view a)
-Reads view (Err (At p)) m = m ≡ Err p
-Reads view (Err (Memory e)) m = Unit {0}
 
 -- which message a call is given
 pub data SourceView : Type 0 where

@@ -1,17 +1,17 @@
 //! The statements, each with its own form.
 ghost use Rattle.std.specs.Prelude.{◌≡◌};
-ghost use Rattle.script.specs.Views.{Reads, statement_view};
-ghost use Rattle.script.specs.Forms.{verb_in, change_in, identities_in, key_in, nonce_in, alter_in, pass_in, form_of, statement_in};
+ghost use Rattle.text.specs.Reading.{Reads};
+ghost use Rattle.script.specs.Views.{statement_view};
+ghost use Rattle.script.specs.Forms.{verb_in, identities_in, key_in, nonce_in, alter_in, pass_in, form_of, statement_in};
 
 use crate::calls::{fob_call, mixer_call};
-use crate::parts::{
-    Stop, end, is, last_cipher, last_key, last_number, last_octets, last_sized, sized, who,
-};
+use crate::parts::{end, last_cipher, last_key, last_number, last_octets, last_sized, sized};
 use crate::{Problem, Statement, Who};
 use std::alloc::Global;
-use text::{number, split_word};
+use text::{ParseError, number, split_word};
 
 /// The first word of a statement.
+// Not one `match` of words and forms, which is no plainer: which words there are stands in `try_from`, what follows each in `form`.
 #[derive(Clone, Copy)]
 pub(crate) enum Verb {
     Cipher,
@@ -29,64 +29,37 @@ pub(crate) enum Verb {
     Pass,
 }
 
-fn verb_of(word: &[u8]) -> Result<Verb, Problem>
-    ensures value { result ≡ verb_in word.now }
-{
-    if is(word, b"cipher") {
-        return Ok(Verb::Cipher);
-    }
-    if is(word, b"identities") {
-        return Ok(Verb::Identities);
-    }
-    if is(word, b"key") {
-        return Ok(Verb::Key);
-    }
-    if is(word, b"nonce") {
-        return Ok(Verb::Nonce);
-    }
-    if is(word, b"fob") {
-        return Ok(Verb::Fob);
-    }
-    if is(word, b"mixer") {
-        return Ok(Verb::Mixer);
-    }
-    if is(word, b"lose") {
-        return Ok(Verb::Lose);
-    }
-    if is(word, b"pass") {
-        return Ok(Verb::Pass);
-    }
-    change_of(word)
-}
+impl TryFrom<&[u8]> for Verb {
+    type Error = Problem;
 
-/// The first word of a statement that changes what the next call is given.
-fn change_of(word: &[u8]) -> Result<Verb, Problem>
-    ensures value { result ≡ change_in word.now }
-{
-    if is(word, b"cut") {
-        return Ok(Verb::Cut);
+    ghost try_from_gives = { λ w r. r ≡ verb_in w.now };
+
+    fn try_from(word: &[u8]) -> Result<Verb, Problem> {
+        match word {
+            b"cipher" => Ok(Verb::Cipher),
+            b"identities" => Ok(Verb::Identities),
+            b"key" => Ok(Verb::Key),
+            b"nonce" => Ok(Verb::Nonce),
+            b"cut" => Ok(Verb::Cut),
+            b"alter" => Ok(Verb::Alter),
+            b"append" => Ok(Verb::Append),
+            b"workspace" => Ok(Verb::Workspace),
+            b"output" => Ok(Verb::Output),
+            b"fob" => Ok(Verb::Fob),
+            b"mixer" => Ok(Verb::Mixer),
+            b"lose" => Ok(Verb::Lose),
+            b"pass" => Ok(Verb::Pass),
+            _ => Err(Problem::Verb),
+        }
     }
-    if is(word, b"alter") {
-        return Ok(Verb::Alter);
-    }
-    if is(word, b"append") {
-        return Ok(Verb::Append);
-    }
-    if is(word, b"workspace") {
-        return Ok(Verb::Workspace);
-    }
-    if is(word, b"output") {
-        return Ok(Verb::Output);
-    }
-    Err(Problem::Verb)
 }
 
 /// An end, and the two identities that it is made with.
-fn identities(heap: Global, text: &[u8]) -> Result<Statement, Stop>
+fn identities(heap: Global, text: &[u8]) -> Result<Statement, ParseError<Problem>>
     ensures value { Reads statement_view result (identities_in text.now) }
 {
     let (first, rest) = split_word(text);
-    let who = who(first)?;
+    let who = Who::try_from(first)?;
     let (second, rest) = split_word(rest);
     let fob = sized(heap, second, Problem::TenOctets)?;
     let mixer = last_sized(heap, rest, Problem::TenOctets)?;
@@ -94,54 +67,47 @@ fn identities(heap: Global, text: &[u8]) -> Result<Statement, Stop>
 }
 
 /// An end, and its key.
-fn key(heap: Global, text: &[u8]) -> Result<Statement, Stop>
+fn key(heap: Global, text: &[u8]) -> Result<Statement, ParseError<Problem>>
     ensures value { Reads statement_view result (key_in text.now) }
 {
     let (first, rest) = split_word(text);
-    let who = who(first)?;
+    let who = Who::try_from(first)?;
     let key = last_key(heap, rest)?;
     Ok(Statement::Key { who, key })
 }
 
 /// An end, and the nonce that it hands over next.
-fn nonce(heap: Global, text: &[u8]) -> Result<Statement, Stop>
+fn nonce(heap: Global, text: &[u8]) -> Result<Statement, ParseError<Problem>>
     ensures value { Reads statement_view result (nonce_in text.now) }
 {
     let (first, rest) = split_word(text);
-    let who = who(first)?;
+    let who = Who::try_from(first)?;
     let octets = last_sized(heap, rest, Problem::TwelveOctets)?;
     Ok(Statement::Nonce { who, octets })
 }
 
 /// A place, and the octet that is put on it by exclusive or.
-fn alter(heap: Global, text: &[u8]) -> Result<Statement, Stop>
+fn alter(heap: Global, text: &[u8]) -> Result<Statement, ParseError<Problem>>
     ensures value { Reads statement_view result (alter_in text.now) }
 {
     let (first, rest) = split_word(text);
-    let Some(place) = number(first) else {
-        return Err(Stop::At(Problem::Number));
-    };
-    let mask: [u8; 1] = last_sized(heap, rest, Problem::OneOctet)?;
-    Ok(Statement::Alter {
-        place,
-        mask: mask[0],
-    })
+    let place = number(first).ok_or(Problem::Number)?;
+    let [mask]: [u8; 1] = last_sized(heap, rest, Problem::OneOctet)?;
+    Ok(Statement::Alter { place, mask })
 }
 
 /// How many packets are passed, and how many octets each has.
-fn pass(text: &[u8]) -> Result<Statement, Stop>
+fn pass(text: &[u8]) -> Result<Statement, ParseError<Problem>>
     ensures value { Reads statement_view result (pass_in text.now) }
 {
     let (first, rest) = split_word(text);
-    let Some(count) = number(first) else {
-        return Err(Stop::At(Problem::Number));
-    };
+    let count = number(first).ok_or(Problem::Number)?;
     let size = last_number(rest)?;
     Ok(Statement::Pass { count, size })
 }
 
 /// What follows the first word of a statement.
-fn form(heap: Global, verb: Verb, text: &[u8]) -> Result<Statement, Stop>
+fn form(heap: Global, verb: Verb, text: &[u8]) -> Result<Statement, ParseError<Problem>>
     ensures value { Reads statement_view result (form_of verb text.now) }
 {
     match verb {
@@ -171,9 +137,12 @@ fn form(heap: Global, verb: Verb, text: &[u8]) -> Result<Statement, Stop>
 }
 
 /// The statement of a line that has this first word and this rest.
-pub(crate) fn statement(heap: Global, first: &[u8], rest: &[u8]) -> Result<Statement, Stop>
+pub(crate) fn statement(
+    heap: Global,
+    first: &[u8],
+    rest: &[u8],
+) -> Result<Statement, ParseError<Problem>>
     ensures value { Reads statement_view result (statement_in first.now rest.now) }
 {
-    let verb = verb_of(first)?;
-    form(heap, verb, rest)
+    form(heap, Verb::try_from(first)?, rest)
 }

@@ -3,20 +3,27 @@
 //! An empty line, and one whose first word begins with `#`, holds nothing.
 #![tactic(auto)]
 
-ghost use Rattle.std.specs.Prelude.{◌≡◌, IfOk};
-ghost use Rattle.script.specs.Lines.{viewed, meaning};
+ghost use Rattle.std.specs.Prelude.{◌≡◌, Some};
+ghost use Rattle.std.specs.Option.{option_map};
+ghost use Rattle.text.specs.declared.ParseError.TheVariants.{Unreadable};
+ghost use Rattle.text.specs.Reading.{Reads};
+ghost use Rattle.script.specs.Views.{statement_view};
+ghost use Rattle.script.specs.Parts.{who_in, cipher_in};
+ghost use Rattle.script.specs.Lines.{meaning};
+ghost use Rattle.script.specs.Names.{who_name, call_name};
 ghost use Rattle.script.specs.Expected.{words_of};
 
 use forms::statement;
-use parts::Stop;
-use std::alloc::{AllocError, Global};
-use text::split_word;
+use std::alloc::Global;
+use std::fmt;
+use text::{ParseError, split_word};
 
 mod calls;
 mod forms;
 mod parts;
 
 /// One of the two ends.
+// A script's word, read and printed here: `Role` of `ends` is not printed, and this crate stands on `text` alone.
 #[derive(Clone, Copy, PartialEq, Eq, Debug)]
 pub enum Who {
     Fob,
@@ -24,6 +31,7 @@ pub enum Who {
 }
 
 /// The name of a cipher.
+// `recorded` has the like, which refuses with the problems of its own files; this crate stands on `text` alone.
 #[derive(Clone, Copy, PartialEq, Eq, Debug)]
 pub enum CipherName {
     Aes,
@@ -51,6 +59,7 @@ pub enum Payload {
 }
 
 /// A key as a script gives it.
+// `recorded` has the like, which makes a key of `lookup`; this crate stands on `text` alone.
 #[derive(Drop)]
 pub enum KeyText {
     /// the private number of a bench key
@@ -148,12 +157,61 @@ pub enum Problem {
     End,
 }
 
-/// What a line holds.
-#[derive(Drop)]
-pub enum Line {
-    Nothing,
-    Statement(Statement),
-    Unreadable(Problem),
+impl TryFrom<&[u8]> for Who {
+    type Error = Problem;
+
+    ghost try_from_gives = { λ w r. r ≡ who_in w.now };
+
+    fn try_from(word: &[u8]) -> Result<Who, Problem> {
+        match word {
+            b"fob" => Ok(Who::Fob),
+            b"mixer" => Ok(Who::Mixer),
+            _ => Err(Problem::Who),
+        }
+    }
+}
+
+impl fmt::Display for Who {
+    ghost output = { λ w. Some (who_name w) };
+
+    fn fmt<W: fmt::Write>(&self, f: &mut fmt::Formatter<W>) -> fmt::Result {
+        f.write_str(match self {
+            Who::Fob => "fob",
+            Who::Mixer => "mixer",
+        })
+    }
+}
+
+impl TryFrom<&[u8]> for CipherName {
+    type Error = Problem;
+
+    ghost try_from_gives = { λ w r. r ≡ cipher_in w.now };
+
+    fn try_from(word: &[u8]) -> Result<CipherName, Problem> {
+        match word {
+            b"aes" => Ok(CipherName::Aes),
+            b"speck" => Ok(CipherName::Speck),
+            _ => Err(Problem::Cipher),
+        }
+    }
+}
+
+/// The name of the call.
+impl fmt::Display for Call {
+    ghost output = { λ c. Some (call_name c) };
+
+    fn fmt<W: fmt::Write>(&self, f: &mut fmt::Formatter<W>) -> fmt::Result {
+        f.write_str(match self {
+            Call::Invite => "invite",
+            Call::Answer(_) => "answer",
+            Call::Prove(_) => "prove",
+            Call::Confirm(_) => "confirm",
+            Call::Finish(_) => "finish",
+            Call::Seal(_) => "seal",
+            Call::Unseal(_) => "unseal",
+            Call::Close => "close",
+        })
+    }
 }
 
 impl Problem {
@@ -180,17 +238,31 @@ impl Problem {
     }
 }
 
-/// What a line of a script holds; an error only for want of memory.
-pub fn parse_line(heap: Global, text: &[u8]) -> Result<Line, AllocError>
-    ensures value { IfOk result (λ l. viewed l ≡ meaning text.now) }
+/// Prints what was expected.
+impl fmt::Display for Problem {
+    ghost output = { λ p. Some (words_of p) };
+
+    fn fmt<W: fmt::Write>(&self, f: &mut fmt::Formatter<W>) -> fmt::Result {
+        f.write_str(self.expected())
+    }
+}
+
+// `capture` has the like. Tried as one `impl<P> From<P>` in `text`: it conflicts with the one from `AllocError` there.
+impl From<Problem> for ParseError<Problem> {
+    ghost from_gives = { λ p r. r ≡ Unreadable p };
+
+    fn from(problem: Problem) -> ParseError<Problem> {
+        ParseError::Unreadable(problem)
+    }
+}
+
+/// The statement that a line of a script holds, if it holds one.
+pub fn parse_line(heap: Global, text: &[u8]) -> Result<Option<Statement>, ParseError<Problem>>
+    ensures value { Reads (option_map statement_view) result (meaning text.now) }
 {
     let (first, rest) = split_word(text);
-    if first.is_empty() || first[0] == b'#' {
-        return Ok(Line::Nothing);
-    }
-    match statement(heap, first, rest) {
-        Ok(statement) => Ok(Line::Statement(statement)),
-        Err(Stop::At(problem)) => Ok(Line::Unreadable(problem)),
-        Err(Stop::Memory(error)) => Err(error),
+    match first.first() {
+        None | Some(b'#') => Ok(None),
+        _ => Ok(Some(statement(heap, first, rest)?)),
     }
 }

@@ -1,43 +1,12 @@
 //! The parts that statements are made of.
 ghost use Rattle.std.specs.Prelude.{◌≡◌, vec_items};
-ghost use Rattle.std.specs.Str.{bytes_eq};
-ghost use Rattle.script.specs.declared.parts.Stop.TheVariants.{Memory, At};
-ghost use Rattle.script.specs.Views.{Reads, source_view, payload_view, key_view};
-ghost use Rattle.script.specs.Parts.{ended, last_number, last_octets, sized_octets, last_sized, who_in, last_cipher, last_source, last_payload, last_key};
+ghost use Rattle.text.specs.Reading.{Reads};
+ghost use Rattle.script.specs.Views.{source_view, payload_view, key_view};
+ghost use Rattle.script.specs.Parts.{ended, last_number, last_octets, sized_octets, last_sized, last_cipher, last_source, last_payload, last_key};
 
-use crate::{CipherName, KeyText, Payload, Problem, Source, Who};
-use std::alloc::{AllocError, Global};
-use text::{number, split_word};
-
-/// Why a part was not read.
-#[derive(Drop)]
-pub(crate) enum Stop {
-    Memory(AllocError),
-    At(Problem),
-}
-
-impl From<AllocError> for Stop {
-    ghost from_gives = { λ e r. r ≡ Memory e };
-
-    fn from(e: AllocError) -> Stop {
-        Stop::Memory(e)
-    }
-}
-
-impl From<Problem> for Stop {
-    ghost from_gives = { λ p r. r ≡ At p };
-
-    fn from(p: Problem) -> Stop {
-        Stop::At(p)
-    }
-}
-
-/// Whether a word is this one.
-pub(crate) fn is(word: &[u8], name: &[u8]) -> bool
-    ensures value { result ≡ bytes_eq word.now name.now }
-{
-    word == name
-}
+use crate::{CipherName, KeyText, Payload, Problem, Source};
+use std::alloc::Global;
+use text::{ParseError, number, octets, split_word};
 
 /// Nothing may follow the last word of a form.
 pub(crate) fn end(text: &[u8]) -> Result<(), Problem>
@@ -55,21 +24,18 @@ pub(crate) fn last_number(text: &[u8]) -> Result<u32, Problem>
     ensures value { result ≡ last_number text.now }
 {
     let (word, rest) = split_word(text);
-    let Some(value) = number(word) else {
-        return Err(Problem::Number);
-    };
+    let value = number(word).ok_or(Problem::Number)?;
     end(rest)?;
     Ok(value)
 }
 
 /// Octets, as the last word.
-pub(crate) fn last_octets(heap: Global, text: &[u8]) -> Result<Vec<u8>, Stop>
+// The heap and the text are two parameters, here and in the forms: a reader that has both would be handed on and back at each word.
+pub(crate) fn last_octets(heap: Global, text: &[u8]) -> Result<Vec<u8>, ParseError<Problem>>
     ensures value { Reads vec_items result (last_octets text.now) }
 {
     let (word, rest) = split_word(text);
-    let Some(octets) = text::octets(heap, word)? else {
-        return Err(Stop::At(Problem::Octets));
-    };
+    let octets = octets(heap, word)?.ok_or(Problem::Octets)?;
     end(rest)?;
     Ok(octets)
 }
@@ -79,16 +45,11 @@ pub(crate) fn sized<const N: usize>(
     heap: Global,
     word: &[u8],
     problem: Problem,
-) -> Result<[u8; N], Stop>
+) -> Result<[u8; N], ParseError<Problem>>
     ensures value { Reads (λ o. o) result (sized_octets N problem word.now) }
 {
-    let Some(octets) = text::octets(heap, word)? else {
-        return Err(Stop::At(Problem::Octets));
-    };
-    match <[u8; N]>::try_from(octets.as_slice()) {
-        Ok(array) => Ok(array),
-        Err(_) => Err(Stop::At(problem)),
-    }
+    let octets = octets(heap, word)?.ok_or(Problem::Octets)?;
+    Ok(<[u8; N]>::try_from(octets.as_slice()).map_err(|_| problem)?)
 }
 
 /// A word of this many octets, as the last word.
@@ -96,7 +57,7 @@ pub(crate) fn last_sized<const N: usize>(
     heap: Global,
     text: &[u8],
     problem: Problem,
-) -> Result<[u8; N], Stop>
+) -> Result<[u8; N], ParseError<Problem>>
     ensures value { Reads (λ o. o) result (last_sized N problem text.now) }
 {
     let (word, rest) = split_word(text);
@@ -105,77 +66,52 @@ pub(crate) fn last_sized<const N: usize>(
     Ok(octets)
 }
 
-/// An end.
-pub(crate) fn who(word: &[u8]) -> Result<Who, Problem>
-    ensures value { result ≡ who_in word.now }
-{
-    if is(word, b"fob") {
-        return Ok(Who::Fob);
-    }
-    if is(word, b"mixer") {
-        return Ok(Who::Mixer);
-    }
-    Err(Problem::Who)
-}
-
 /// The name of a cipher, as the last word.
 pub(crate) fn last_cipher(text: &[u8]) -> Result<CipherName, Problem>
     ensures value { result ≡ last_cipher text.now }
 {
     let (word, rest) = split_word(text);
-    if is(word, b"aes") {
-        end(rest)?;
-        return Ok(CipherName::Aes);
-    }
-    if is(word, b"speck") {
-        end(rest)?;
-        return Ok(CipherName::Speck);
-    }
-    Err(Problem::Cipher)
+    let cipher = CipherName::try_from(word)?;
+    end(rest)?;
+    Ok(cipher)
 }
 
 /// Which message a call is given, as the last words.
-pub(crate) fn last_source(heap: Global, text: &[u8]) -> Result<Source, Stop>
+pub(crate) fn last_source(heap: Global, text: &[u8]) -> Result<Source, ParseError<Problem>>
     ensures value { Reads source_view result (last_source text.now) }
 {
     let (word, rest) = split_word(text);
-    if is(word, b"last") {
-        end(rest)?;
-        return Ok(Source::Last);
+    match word {
+        b"last" => {
+            end(rest)?;
+            Ok(Source::Last)
+        }
+        b"message" => Ok(Source::Message(last_number(rest)?)),
+        b"octets" => Ok(Source::Octets(last_octets(heap, rest)?)),
+        _ => Err(Problem::Source.into()),
     }
-    if is(word, b"message") {
-        return Ok(Source::Message(last_number(rest)?));
-    }
-    if is(word, b"octets") {
-        return Ok(Source::Octets(last_octets(heap, rest)?));
-    }
-    Err(Stop::At(Problem::Source))
 }
 
 /// What a call seals, as the last words.
-pub(crate) fn last_payload(heap: Global, text: &[u8]) -> Result<Payload, Stop>
+pub(crate) fn last_payload(heap: Global, text: &[u8]) -> Result<Payload, ParseError<Problem>>
     ensures value { Reads payload_view result (last_payload text.now) }
 {
     let (word, rest) = split_word(text);
-    if is(word, b"octets") {
-        return Ok(Payload::Octets(last_octets(heap, rest)?));
+    match word {
+        b"octets" => Ok(Payload::Octets(last_octets(heap, rest)?)),
+        b"count" => Ok(Payload::Count(last_number(rest)?)),
+        _ => Err(Problem::Payload.into()),
     }
-    if is(word, b"count") {
-        return Ok(Payload::Count(last_number(rest)?));
-    }
-    Err(Stop::At(Problem::Payload))
 }
 
 /// A key, as the last words.
-pub(crate) fn last_key(heap: Global, text: &[u8]) -> Result<KeyText, Stop>
+pub(crate) fn last_key(heap: Global, text: &[u8]) -> Result<KeyText, ParseError<Problem>>
     ensures value { Reads key_view result (last_key text.now) }
 {
     let (word, rest) = split_word(text);
-    if is(word, b"bench") {
-        return Ok(KeyText::Bench(last_number(rest)?));
+    match word {
+        b"bench" => Ok(KeyText::Bench(last_number(rest)?)),
+        b"chip" => Ok(KeyText::Chip(last_octets(heap, rest)?)),
+        _ => Err(Problem::Key.into()),
     }
-    if is(word, b"chip") {
-        return Ok(KeyText::Chip(last_octets(heap, rest)?));
-    }
-    Err(Stop::At(Problem::Key))
 }

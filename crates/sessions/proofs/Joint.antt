@@ -4,9 +4,8 @@ use native.Mathlib.Nat.{min-eq_left}
 use Rattle.std.specs.Str.{bytes_eq}
 use Rattle.std.proofs.lemmas.List.{take_all, length-append, length-drop}
 use Rattle.fault.specs.declared.Fault.{Fault}
-use Rattle.keyed.specs.declared.confirm.Confirmation.TheVariants.{Fob as OfFob, Mixer as OfMixer}
-use Rattle.lookup.specs.declared.Reply.{Reply}
-use Rattle.lookup.specs.declared.Reply.TheVariants.{Secret, Invalid}
+use Rattle.ends.specs.declared.Role.TheVariants.{Fob as AtFob, Mixer as AtMixer}
+use Rattle.lookup.specs.Replies.{Reply}
 use Rattle.message.specs.Reading.{checked}
 use Rattle.message.specs.Writing.{octets_of, act, verify}
 use Rattle.channel.specs.declared.Nonce.{Nonce}
@@ -29,7 +28,7 @@ use Rattle.runs.proofs.Fields.{tag_12}
 use Rattle.runs.proofs.Opening.{opens_with}
 use Rattle.sessions.proofs.Pairs.{field, levels, level_mixer}
 use Rattle.message.proofs.Again.{passed, went_on}
-use Rattle.channel.proofs.Checks.{after_check}
+use Rattle.channel.proofs.Checks.{after_check, with_secret}
 use Rattle.sessions.proofs.Payloads.{zeros_length}
 
 -- a message that fills its buffer is the whole buffer
@@ -47,10 +46,6 @@ act_length k pid q n hq hn = omega (arith, length-append q n)
 verify_length : (k pid : ℕ) (t : List ℕ) → length t ≡ 12 → length (octets_of k pid (verify t)) ≡ 15
 verify_length k pid t h = omega arith
 
-with_secret : {W : Type 0} (y : Reply) (f : List ℕ → Result W Fault) {w : W} → secret_or y f ≡ Ok w → (z : List ℕ) × (f z ≡ Ok w)
-with_secret (Secret z) f h = (z, h)
-with_secret Invalid f h = let z : ◌≡◌ {A = ℕ} 0 1 = cc in absurd (omega arith)
-
 -- the tags that accepted calls write have twelve octets
 proof_12 :
     {P : Type 0} (pid : ℕ) (m w o : List ℕ) (y : Reply) (f : List ℕ → P) (t : P → List ℕ) (p : P) →
@@ -67,9 +62,9 @@ confirm_12 :
     confirm_check pid e a m w o ≡ Ok t → length t ≡ 12
 confirm_12 pid e whole a m w o t h =
     let b = went_on (ltb (length o) 15) _ _ (went_on (ltb (length w) 256) _ _ h).1 in
-    let q : Ok (confirmation_tag pid e OfMixer a.session) ≡ Ok t =
-    (passed (bytes_eq (confirmation_tag pid e OfFob a.session) (tag_in m)) _ _ (after_check (checked 3 pid m) _ b.1).1).1 in
-    let g : confirmation_tag pid e OfMixer a.session ≡ t = cc in
+    let q : Ok (confirmation_tag pid e AtMixer a.session) ≡ Ok t =
+    (passed (bytes_eq (confirmation_tag pid e AtFob a.session) (tag_in m)) _ _ (after_check (checked 3 pid m) _ b.1).1).1 in
+    let g : confirmation_tag pid e AtMixer a.session ≡ t = cc in
     ap length (sym g) ∙ tag_12 e whole _ _
 
 abbrev pub buffers : Buffers

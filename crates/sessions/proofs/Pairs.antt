@@ -231,9 +231,6 @@ module _ {C K L : Type 0} (pid : ℕ) (e : List ℕ → List ℕ → List ℕ) (
       let q : how_many pid e start ps ≡ i + how_many pid e x (drop i ps) = h.many in
       (omega arith, sym (h.after ∙ ap (pair_after_all pid e x) d))
 
-pub going_start : {C K L : Type 0} (pid : ℕ) (e : List ℕ → List ℕ → List ℕ) (start : Pair C K L) (ps : List (List ℕ)) → Going pid e start start ps 0
-going_start pid e start ps = record { many = omega arith; after = refl }
-
 -- what honest ends make of all payloads, by what was answered
 pub honest_all :
     {C K L : Type 0} (pid : ℕ) (e : List ℕ → List ℕ → List ℕ) → Blocks e → (start x : Pair C K L) (ps : List (List ℕ)) (k r : ℕ) →

@@ -10,10 +10,10 @@ use Rattle.message.specs.Reading.{checked}
 use Rattle.message.specs.Writing.{octets_of, enc}
 use Rattle.channel.specs.declared.Open.{Open}
 use Rattle.channel.specs.Steps.{and_then}
-use Rattle.channel.specs.Packets.{seals_at, data_in, tag_of, crypted, packet_tag, sealed_packet, seal_check, seal_output, unseal_check, unseal_end, unseal_output}
+use Rattle.channel.specs.Packets.{seals_at, data_in, tag_of, crypted, packet_tag, sealed_packet, seal_check, seal_end, seal_output, unseal_check, unseal_end, unseal_output}
 use Rattle.channel.specs.Within.{seal_within, unseal_within}
 use Rattle.runs.specs.Unaltered.{Blocks}
-use Rattle.sessions.specs.Sessions.{zeros, sealing, unsealing, came_out, passing}
+use Rattle.sessions.specs.Sessions.{zeros, sealing, sealer_after, unsealing, unsealer_after, came_out, passing}
 use Rattle.message.proofs.Again.{passed, went_on}
 use Rattle.channel.proofs.Checks.{sized-passes, written-take, after_check}
 use Rattle.keyed.proofs.Stream.{keeps_length}
@@ -148,3 +148,32 @@ module _ {C A B : Type 0} (pid : ℕ) (e : List ℕ → List ℕ → List ℕ) (
     ap (λ q. and_then q (and_then (unsealing pid e s r p) (Ok (came_out pid e s r p)))) h,
     ap (λ q. unseal_end r (and_then q (unsealing pid e s r p))) h,
   )
+
+-- a packet was sealed with buffers of full size and is unsealed with others
+pub record PassedOn {C A B : Type 0} (pid : ℕ) (e : List ℕ → List ℕ → List ℕ) (s : Open C A) (r : Open C B) (p w o m w' o' : List ℕ) : Type 0 where
+  pub sealer : seal_end s p (seal_check s p w o) ≡ sealer_after s p
+  pub unsealer : unseal_end r (unseal_check pid e r m w' o') ≡ unsealer_after pid e s r p
+  pub refused : (f : Fault) → unseal_check pid e r m w' o' ≡ Err f → Err f ≡ passing pid e s r p
+  pub fits : (k l : ℕ) → unseal_check pid e r m w' o' ≡ Ok (k, l) → k ≤ 4096
+  pub came :
+      (k l : ℕ) → unseal_check pid e r m w' o' ≡ Ok (k, l) →
+      Ok (bytes_eq (take (k - 0) (unseal_output pid e r m w' o')) p) ≡ passing pid e s r p
+
+pub passed_on :
+    {C A B : Type 0} (pid : ℕ) (e : List ℕ → List ℕ → List ℕ) → Blocks e → (s : Open C A) (r : Open C B) (p w o out w' o' : List ℕ) (n : ℕ) →
+    length w ≡ 256 → length o ≡ 4117 → length w' ≡ 256 → length o' ≡ 4096 → seal_check s p w o ≡ Ok n → out ≡ seal_output pid e s p w o →
+    PassedOn pid e s r p w o (take (n - 0) out) w' o'
+passed_on pid e whole s r p w o out w' o' n hw ho hw' ho' ok written =
+    let m : List ℕ = take (n - 0) out in
+    let cut : m ≡ take (n - 0) (seal_output pid e s p w o) = ap (take (n - 0)) written in
+    let k = seal_accepted pid e s r p n (sealed_answer pid e whole s r p w o n hw ho ok) in
+    let t = unsealed_answer pid e whole s r p w o n hw ho ok m w' o' cut hw' ho' in
+    record {
+      sealer = ap (seal_end s p) (sealing_is s p w o hw ho);
+      unsealer = ap (unseal_end r) t ∙ sym k.1;
+      refused = λ f v. sym (k.0 ∙ ap (λ q. and_then q (Ok (came_out pid e s r p))) (sym t ∙ v));
+      fits = λ x l v. fits pid e whole s r p w o n hw ho ok m w' o' cut hw' ho' x l v;
+      came = λ x l v.
+          ap Ok (came-out pid e whole s r p w o n hw ho ok m w' o' cut hw' ho' x l v)
+          ∙ sym (k.0 ∙ ap (λ q. and_then q (Ok (came_out pid e s r p))) (sym t ∙ v));
+    }

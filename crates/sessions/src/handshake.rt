@@ -11,12 +11,14 @@ use channel::{Answered, Fob, Invited, Mixer, Nonce, NotStarted, Open, Proved, Re
 use cipher::{BlockCipher, WORKSPACE};
 use fault::Fault;
 use lookup::KeyLookup;
+use message::{ACT, VERIFY};
 
-/// How many octets an `ACT_REQ` or `ACT_RES` has.
-const ACT: usize = 40;
-
-/// How many octets a `VFY_REQ` or `VFY_RES` has.
-const VERIFY: usize = 15;
+/// An end that has not been called yet, with the key and the nonce that its first call takes over.
+pub struct Start<E, K> {
+    pub end: E,
+    pub key: K,
+    pub nonce: Nonce,
+}
 
 /// The ends were given up: a call was refused, and the keys come back.
 #[derive(Drop)]
@@ -35,29 +37,30 @@ pub(crate) fn buffer<const N: usize>() -> [u8; N]
 
 /// Opens both ends, each call given what the other end wrote.
 pub fn open_both<C: BlockCipher, K: KeyLookup, L: KeyLookup>(
-    fob: Fob<C>,
-    fob_key: K,
-    fob_nonce: Nonce,
-    mixer: Mixer<C>,
-    mixer_key: L,
-    mixer_nonce: Nonce,
+    fob: Start<Fob<C>, K>,
+    mixer: Start<Mixer<C>, L>,
 ) -> Result<Pair<C, K, L>, Unopened<K, L>>
-    ensures value { result ≡ opened_both C.BlockCipher.protocol (E C.BlockCipher.schedule C.BlockCipher.worked) (lookups K.KeyLookup.own K.KeyLookup.replies L.KeyLookup.own L.KeyLookup.replies) fob fob_key fob_nonce mixer mixer_key mixer_nonce }
-    ensures honest { Honest (lookups K.KeyLookup.own K.KeyLookup.replies L.KeyLookup.own L.KeyLookup.replies) fob fob_key fob_nonce mixer mixer_key mixer_nonce → Both fob_key mixer_key result }
+    ensures value { result ≡ opened_both C.BlockCipher.protocol (E C.BlockCipher.schedule C.BlockCipher.worked) (lookups K.KeyLookup.own K.KeyLookup.replies L.KeyLookup.own L.KeyLookup.replies) fob.end fob.key fob.nonce mixer.end mixer.key mixer.nonce }
+    ensures honest { Honest (lookups K.KeyLookup.own K.KeyLookup.replies L.KeyLookup.own L.KeyLookup.replies) fob.end fob.key fob.nonce mixer.end mixer.key mixer.nonce → Both fob.key mixer.key result }
 {
+    let Start { end, key, nonce } = fob;
     let mut message = buffer::<ACT>();
-    match fob.invite(fob_key, fob_nonce, &mut message) {
-        Ok(invited) => answer_to(invited, mixer, mixer_key, mixer_nonce, &message),
+    match end.invite(key, nonce, &mut message) {
+        Ok(invited) => answer_to(invited, mixer, &message),
         Err(
             NotStarted {
                 end,
                 key,
-                nonce: _,
                 fault,
+                ..
             },
         ) => {
-            let _ = end.give_up();
-            let _ = mixer.give_up();
+            let Start {
+                end: mixer,
+                key: mixer_key,
+                nonce: _,
+            } = mixer;
+            let (_fob, _mixer) = (end.give_up(), mixer.give_up());
             Err(Unopened {
                 fob_key: key,
                 mixer_key,
@@ -68,28 +71,28 @@ pub fn open_both<C: BlockCipher, K: KeyLookup, L: KeyLookup>(
 }
 
 /// The mixer answers the invitation, and so on.
+// Each call moves one end and leaves the other: a closure for `map_err` would take the other end along, which the next call needs.
 fn answer_to<C: BlockCipher, K: KeyLookup, L: KeyLookup>(
     invited: Invited<C, K>,
-    mixer: Mixer<C>,
-    mixer_key: L,
-    mixer_nonce: Nonce,
+    mixer: Start<Mixer<C>, L>,
     message: &[u8],
 ) -> Result<Pair<C, K, L>, Unopened<K, L>>
-    ensures value { result ≡ then_answered C.BlockCipher.protocol (E C.BlockCipher.schedule C.BlockCipher.worked) (lookups K.KeyLookup.own K.KeyLookup.replies L.KeyLookup.own L.KeyLookup.replies) invited (answer_output C.BlockCipher.protocol (E C.BlockCipher.schedule C.BlockCipher.worked) L.KeyLookup.own L.KeyLookup.replies mixer mixer_key mixer_nonce message.now (zeros 256) (zeros 40)) (answered C.BlockCipher.protocol (E C.BlockCipher.schedule C.BlockCipher.worked) L.KeyLookup.own L.KeyLookup.replies mixer mixer_key mixer_nonce message.now (zeros 256) (zeros 40)) }
+    ensures value { result ≡ then_answered C.BlockCipher.protocol (E C.BlockCipher.schedule C.BlockCipher.worked) (lookups K.KeyLookup.own K.KeyLookup.replies L.KeyLookup.own L.KeyLookup.replies) invited (answer_output C.BlockCipher.protocol (E C.BlockCipher.schedule C.BlockCipher.worked) L.KeyLookup.own L.KeyLookup.replies mixer.end mixer.key mixer.nonce message.now (zeros 256) (zeros 40)) (answered C.BlockCipher.protocol (E C.BlockCipher.schedule C.BlockCipher.worked) L.KeyLookup.own L.KeyLookup.replies mixer.end mixer.key mixer.nonce message.now (zeros 256) (zeros 40)) }
 {
+    let Start { end, key, nonce } = mixer;
     let mut workspace = buffer::<WORKSPACE>();
     let mut output = buffer::<ACT>();
-    match mixer.answer(mixer_key, mixer_nonce, message, &mut workspace, &mut output) {
+    match end.answer(key, nonce, message, &mut workspace, &mut output) {
         Ok(answered) => prove_to(invited, answered, &output),
         Err(
             NotStarted {
                 end,
                 key,
-                nonce: _,
                 fault,
+                ..
             },
         ) => {
-            let _ = end.give_up();
+            let _mixer = end.give_up();
             Err(Unopened {
                 fob_key: invited.give_up(),
                 mixer_key: key,

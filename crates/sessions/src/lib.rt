@@ -4,5 +4,5 @@
 mod handshake;
 mod unaltered;
 
-pub use handshake::{Unopened, open_both};
+pub use handshake::{Start, Unopened, open_both};
 pub use unaltered::{Closed, Ended, Pair, pass_one, run_unaltered};

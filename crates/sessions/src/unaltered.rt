@@ -7,17 +7,12 @@ ghost use Rattle.sessions.specs.Both.{opened_both, Honest, closed_both, then_pas
 ghost use Rattle.runs.specs.History.{lookups};
 ghost use Rattle.sessions.specs.Sessions.{passing, sealer_after, unsealer_after, Ready, Through, through, comes_through, pair_after, how_many, pair_after_all, held};
 
-use crate::handshake::{Unopened, open_both};
-use channel::{Fob, Mixer, Nonce, Open, Ticket};
+use crate::handshake::{Start, Unopened, open_both};
+use channel::{Fob, Mixer, Open, Ticket};
 use cipher::{BlockCipher, WORKSPACE};
 use fault::Fault;
 use lookup::KeyLookup;
-
-/// How many octets the longest packet has.
-const PACKET: usize = 4117;
-
-/// How many octets the longest payload has.
-const PAYLOAD: usize = 4096;
+use message::{PACKET, PAYLOAD};
 
 /// Both ends of a session, open, with their tickets.
 pub struct Pair<C, K, L> {
@@ -45,25 +40,17 @@ pub struct Ended<K, L> {
 
 /// Opens both ends, passes payloads in turn up to the first that does not come through, and closes both.
 pub fn run_unaltered<C: BlockCipher, K: KeyLookup, L: KeyLookup>(
-    fob: Fob<C>,
-    fob_key: K,
-    fob_nonce: Nonce,
-    mixer: Mixer<C>,
-    mixer_key: L,
-    mixer_nonce: Nonce,
+    fob: Start<Fob<C>, K>,
+    mixer: Start<Mixer<C>, L>,
     payloads: &[&[u8]],
 ) -> Result<Ended<K, L>, Unopened<K, L>>
-    ensures value { result ≡ then_passed C.BlockCipher.protocol (E C.BlockCipher.schedule C.BlockCipher.worked) (held payloads.now) (opened_both C.BlockCipher.protocol (E C.BlockCipher.schedule C.BlockCipher.worked) (lookups K.KeyLookup.own K.KeyLookup.replies L.KeyLookup.own L.KeyLookup.replies) fob fob_key fob_nonce mixer mixer_key mixer_nonce) }
-    ensures honest { Honest (lookups K.KeyLookup.own K.KeyLookup.replies L.KeyLookup.own L.KeyLookup.replies) fob fob_key fob_nonce mixer mixer_key mixer_nonce → Small (held payloads.now) → length payloads.now ≤ 16777215 → result ≡ Ok (ended_at (length payloads.now) fob_key mixer_key) }
+    ensures value { result ≡ then_passed C.BlockCipher.protocol (E C.BlockCipher.schedule C.BlockCipher.worked) (held payloads.now) (opened_both C.BlockCipher.protocol (E C.BlockCipher.schedule C.BlockCipher.worked) (lookups K.KeyLookup.own K.KeyLookup.replies L.KeyLookup.own L.KeyLookup.replies) fob.end fob.key fob.nonce mixer.end mixer.key mixer.nonce) }
+    ensures honest { Honest (lookups K.KeyLookup.own K.KeyLookup.replies L.KeyLookup.own L.KeyLookup.replies) fob.end fob.key fob.nonce mixer.end mixer.key mixer.nonce → Small (held payloads.now) → length payloads.now ≤ 16777215 → result ≡ Ok (ended_at (length payloads.now) fob.key mixer.key) }
 {
-    match open_both(fob, fob_key, fob_nonce, mixer, mixer_key, mixer_nonce) {
-        Err(unopened) => Err(unopened),
-        Ok(mut pair) => {
-            let passed = pair.pass_all(payloads);
-            let closed = pair.close();
-            Ok(Ended { passed, closed })
-        }
-    }
+    let mut pair = open_both(fob, mixer)?;
+    let passed = pair.pass_all(payloads);
+    let closed = pair.close();
+    Ok(Ended { passed, closed })
 }
 
 /// One end seals a payload and the other unseals the packet: whether the same payload came out, or the first refusal.
@@ -106,24 +93,7 @@ fn pass_within<C: BlockCipher, A, B>(
 {
     let size = sealer.seal(payload, workspace, packet)?;
     let (count, _) = unsealer.unseal(&packet[0..size], workspace, output)?;
-    Ok(same(&output[0..count], payload))
-}
-
-/// Whether two slices hold the same octets.
-fn same(a: &[u8], b: &[u8]) -> bool
-    ensures value { result ≡ bytes_eq a.now b.now }
-{
-    a == b
-}
-
-/// Whether a payload came through: not where one of the ends refused.
-fn came_through(passed: Result<bool, Fault>) -> bool
-    ensures value { result ≡ through passed }
-{
-    match passed {
-        Ok(same) => same,
-        Err(_) => false,
-    }
+    Ok(&output[0..count] == payload)
 }
 
 impl<C: BlockCipher, K, L> Pair<C, K, L> {
@@ -152,10 +122,12 @@ impl<C: BlockCipher, K, L> Pair<C, K, L> {
         ensures value { result ≡ comes_through C.BlockCipher.protocol (E C.BlockCipher.schedule C.BlockCipher.worked) self.old payload.now }
         ensures end { self.new ≡ pair_after C.BlockCipher.protocol (E C.BlockCipher.schedule C.BlockCipher.worked) self.old payload.now }
     {
-        if self.fob.number() % 2 == 0 {
-            return came_through(pass_one(&mut self.fob, &mut self.mixer, payload));
-        }
-        came_through(pass_one(&mut self.mixer, &mut self.fob, payload))
+        let passed = if self.fob.number() % 2 == 0 {
+            pass_one(&mut self.fob, &mut self.mixer, payload)
+        } else {
+            pass_one(&mut self.mixer, &mut self.fob, payload)
+        };
+        matches!(passed, Ok(true))
     }
 
     /// Passes the same payload back and forth, at most `count` times: how many times it came through.
@@ -173,6 +145,8 @@ impl<C: BlockCipher, K, L> Pair<C, K, L> {
     }
 
     /// Passes payloads in turn, up to the first that does not come through: how many came through.
+    // Not one function with `pass`: the two counts are of different types, and one loop over an iterator would have to say in its
+    // contract what the iterator gives, which is longer than either loop.
     pub fn pass_all(&mut self, payloads: &[&[u8]]) -> usize
         ensures value { result ≡ how_many C.BlockCipher.protocol (E C.BlockCipher.schedule C.BlockCipher.worked) self.old (held payloads.now) }
         ensures end { self.new ≡ pair_after_all C.BlockCipher.protocol (E C.BlockCipher.schedule C.BlockCipher.worked) self.old (held payloads.now) }

@@ -4,12 +4,12 @@ use channel::Role;
 use script::Source;
 use std::alloc::Global;
 
-/// A message as it was written, by which end, and whether it is lost.
+/// A message as it was written.
 #[derive(Drop)]
 struct Written {
-    by: Role,
+    /// the end that wrote it; none once the message is lost
+    from: Option<Role>,
     octets: Vec<u8>,
-    lost: bool,
 }
 
 /// All messages that were written, the first one first.
@@ -28,11 +28,11 @@ impl Air {
 
     /// Takes a message that an end wrote, and gives its number, the first being 1.
     pub(crate) fn write(&mut self, by: Role, octets: Vec<u8>) -> Result<usize, Trouble> {
-        let lost = false;
-        match self.messages.push(Written { by, octets, lost }) {
-            Ok(()) => Ok(self.messages.len()),
-            Err(_) => Err(Trouble::Memory),
-        }
+        self.messages.push(Written {
+            from: Some(by),
+            octets,
+        })?;
+        Ok(self.messages.len())
     }
 
     /// The message of this number.
@@ -44,24 +44,16 @@ impl Air {
 
     /// The last message that was written is lost.
     pub(crate) fn lose_last(&mut self) -> Result<(), Trouble> {
-        let Some(mut last) = self.messages.pop() else {
-            return Err(Trouble::NothingToLose);
-        };
-        last.lost = true;
-        match self.messages.push(last) {
-            Ok(()) => Ok(()),
-            Err(_) => Err(Trouble::Memory),
-        }
+        let last = self.messages.last_mut().ok_or(Trouble::NothingToLose)?;
+        last.from = None;
+        Ok(())
     }
 
     /// The last message that the other end wrote and that is not lost.
     fn last_for(&self, reader: Role) -> Option<&[u8]> {
-        for Written { by, octets, lost } in self.messages.iter().rev() {
-            if *by != reader && !*lost {
-                return Some(octets.as_slice());
-            }
-        }
-        None
+        let mut latest_first = self.messages.iter().rev();
+        let last = latest_first.find(|written| written.from.is_some_and(|by| by != reader))?;
+        Some(last.octets.as_slice())
     }
 
     /// The message that a source stands for, as it arrives at its reader.
@@ -72,16 +64,13 @@ impl Air {
         source: &Source,
         changes: &Changes,
     ) -> Result<Vec<u8>, Trouble> {
-        match source {
-            Source::Octets(octets) => changes.arrives(heap, octets.as_slice()),
-            Source::Last => match self.last_for(reader) {
-                Some(octets) => changes.arrives(heap, octets),
-                None => Err(Trouble::NoLast),
-            },
-            Source::Message(number) => match self.numbered(*number as usize) {
-                Some(octets) => changes.arrives(heap, octets),
-                None => Err(Trouble::NoMessage),
-            },
-        }
+        let octets = match source {
+            Source::Octets(octets) => octets.as_slice(),
+            Source::Last => self.last_for(reader).ok_or(Trouble::NoLast)?,
+            Source::Message(number) => {
+                self.numbered(*number as usize).ok_or(Trouble::NoMessage)?
+            }
+        };
+        changes.arrives(heap, octets)
     }
 }

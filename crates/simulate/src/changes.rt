@@ -1,12 +1,13 @@
 //! What is changed for the next call alone, and what can be wrong with a statement.
 use script::Statement;
-use std::alloc::{AllocError, Global};
+use std::alloc::{AllocError, AllocFailed, Global};
+use std::fmt;
 
 /// The size of a workspace, where the script gives none.
-const WORKSPACE: u32 = 256;
+const WORKSPACE: u32 = cipher::WORKSPACE as u32;
 
 /// The size of an output, where the script gives none: the longest packet.
-const OUTPUT: u32 = 4117;
+const OUTPUT: u32 = message::PACKET as u32;
 
 /// Why a statement cannot be carried out.
 #[derive(Clone, Copy)]
@@ -19,22 +20,27 @@ pub(crate) enum Trouble {
     Memory,
 }
 
-impl Trouble {
-    /// In words for people.
-    pub(crate) fn words(self) -> &'static str {
-        match self {
+impl fmt::Display for Trouble {
+    fn fmt<W: fmt::Write>(&self, f: &mut fmt::Formatter<W>) -> fmt::Result {
+        f.write_str(match self {
             Trouble::NoLast => "no message of the other end is on the air",
             Trouble::NoMessage => "no message of this number was written",
             Trouble::NothingToLose => "no message was written that could be lost",
             Trouble::BeyondMessage => "the place to alter is not in the message",
             Trouble::GivenNone => "this call is given no message that could be changed",
             Trouble::Memory => "not enough memory",
-        }
+        })
     }
 }
 
 impl From<AllocError> for Trouble {
     fn from(_e: AllocError) -> Trouble {
+        Trouble::Memory
+    }
+}
+
+impl<T: Drop> From<AllocFailed<T>> for Trouble {
+    fn from(_e: AllocFailed<T>) -> Trouble {
         Trouble::Memory
     }
 }
@@ -74,9 +80,7 @@ impl Changes {
             Statement::Cut(size) => self.cut = Some(*size),
             Statement::Alter { place, mask } => {
                 let (place, mask) = (*place, *mask);
-                if self.alters.push(Alter { place, mask }).is_err() {
-                    return Err(Trouble::Memory);
-                }
+                self.alters.push(Alter { place, mask })?;
             }
             Statement::Append(octets) => self.append.extend_from_slice(octets.as_slice())?,
             Statement::Workspace(size) => self.workspace = *size,
@@ -107,10 +111,8 @@ impl Changes {
 
 /// Puts a mask onto one octet.
 fn put_on(message: &mut [u8], place: usize, mask: u8) -> Result<(), Trouble> {
-    if place >= message.len() {
-        return Err(Trouble::BeyondMessage);
-    }
-    message[place] ^= mask;
+    let octet = message.get_mut(place).ok_or(Trouble::BeyondMessage)?;
+    *octet ^= mask;
     Ok(())
 }
 
@@ -122,10 +124,8 @@ pub(crate) fn buffer(heap: Global, size: u32) -> Result<Vec<u8>, Trouble> {
 /// So many octets 0, 1, 2 and so on, and after 255 from 0 again.
 pub(crate) fn counted(heap: Global, size: u32) -> Result<Vec<u8>, Trouble> {
     let mut octets = buffer(heap, size)?;
-    let mut next = 0u8;
-    for octet in octets.iter_mut() {
-        *octet = next;
-        next = next.wrapping_add(1);
+    for (octet, count) in octets.iter_mut().zip((0..=u8::MAX).cycle()) {
+        *octet = count;
     }
     Ok(octets)
 }

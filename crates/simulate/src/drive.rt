@@ -1,12 +1,13 @@
 //! The calls of a script, made one after another.
 use crate::changes::{Trouble, counted};
 use crate::lines::Numbered;
-use crate::report::Named;
-use crate::setup::BothIdentities;
+use crate::report::{AtLine, Named};
 use crate::stage::Stage;
 use crate::{report, summary};
 use channel::{Fob, Mixer};
 use cipher::BlockCipher;
+use ends::Both;
+use keyed::Identities;
 use lookup::KeyLookup;
 use script::Statement;
 use simulation::{Call, Outcome, Run};
@@ -15,7 +16,7 @@ use simulation::{Call, Outcome, Run};
 pub(crate) fn drive<C: BlockCipher, K: KeyLookup + Drop, L: KeyLookup + Drop>(
     rt: &HostRuntime,
     script: &[Numbered],
-    ids: BothIdentities,
+    ids: Both<Identities>,
     fob_key: K,
     mixer_key: L,
 ) -> anyhow::Result<()> {
@@ -25,10 +26,7 @@ pub(crate) fn drive<C: BlockCipher, K: KeyLookup + Drop, L: KeyLookup + Drop>(
     let run = Run::new(heap, fob, fob_key, mixer, mixer_key);
     let mut stage = Stage::new(heap);
     let (run, gone) = go_through(rt, run, script, &mut stage);
-    let shown = match gone {
-        Ok(()) => summary::show(rt, &run, stage.passed),
-        Err(error) => Err(error),
-    };
+    let shown = gone.and_then(|()| summary::show(rt, &run, stage.passed));
     let _log = run.end();
     shown
 }
@@ -59,19 +57,18 @@ fn carry_out<C: BlockCipher, K: KeyLookup + Drop, L: KeyLookup + Drop>(
 ) -> (Run<C, K, L>, anyhow::Result<()>) {
     let line = numbered.line;
     match &numbered.statement {
-        Statement::Call { who, call } => one_call(
-            rt,
-            run,
-            Named::new(line, *who, call),
-            call,
-            stage,
-        ),
+        Statement::Call { who, call } => {
+            let named = Named {
+                line,
+                end: *who,
+                call,
+            };
+            one_call(rt, run, named, stage)
+        }
         Statement::Pass { count, size } => pass(rt, run, line, *count, *size, stage),
         other => {
-            let done = match stage.take_up(other) {
-                Ok(()) => Ok(()),
-                Err(trouble) => report::stopped(rt, line, trouble),
-            };
+            let taken = stage.take_up(other);
+            let done = taken.or_else(|trouble| report::stopped(rt, AtLine(line), trouble));
             (run, done)
         }
     }
@@ -81,19 +78,21 @@ fn carry_out<C: BlockCipher, K: KeyLookup + Drop, L: KeyLookup + Drop>(
 fn one_call<C: BlockCipher, K: KeyLookup + Drop, L: KeyLookup + Drop>(
     rt: &HostRuntime,
     run: Run<C, K, L>,
-    named: Named,
-    call: &script::Call,
+    named: Named<'_>,
     stage: &mut Stage,
 ) -> (Run<C, K, L>, anyhow::Result<()>) {
-    let call = match stage.prepare(rt.alloc(), named.role, call) {
+    let call = match stage.prepare(rt.alloc(), named.role(), named.call) {
         Ok(call) => call,
-        Err(trouble) => return (run, report::stopped_at(rt, named, trouble)),
+        Err(trouble) => return (run, report::stopped(rt, named, trouble)),
     };
     let before = run.log().len();
     let (run, made) = make(run, call);
     let done = match made {
-        Ok(outcome) => report::show(rt, named, outcome, run.log(), before, &mut stage.air),
-        Err(trouble) => report::stopped_at(rt, named, trouble),
+        Ok(outcome) => {
+            let entered = run.log().get(before..).unwrap_or(&[]);
+            report::show(rt, named, outcome, entered, &mut stage.air)
+        }
+        Err(trouble) => report::stopped(rt, named, trouble),
     };
     (run, done)
 }
@@ -104,10 +103,7 @@ fn make<C: BlockCipher, K: KeyLookup + Drop, L: KeyLookup + Drop>(
     call: Call,
 ) -> (Run<C, K, L>, Result<Outcome, Trouble>) {
     let (run, made) = run.make(call);
-    match made {
-        Ok(outcome) => (run, Ok(outcome)),
-        Err(_) => (run, Err(Trouble::Memory)),
-    }
+    (run, made.map_err(Trouble::from))
 }
 
 /// Passes packets back and forth and tells how many came through.
@@ -122,7 +118,7 @@ fn pass<C: BlockCipher, K: KeyLookup + Drop, L: KeyLookup + Drop>(
     let _unused = stage.take_changes(rt.alloc());
     let payload = match counted(rt.alloc(), size) {
         Ok(payload) => payload,
-        Err(trouble) => return (run, report::stopped(rt, line, trouble)),
+        Err(trouble) => return (run, report::stopped(rt, AtLine(line), trouble)),
     };
     let (run, passed) = run.pass(payload.as_slice(), count);
     let before = stage.passed.unwrap_or(0);

@@ -1,6 +1,7 @@
 //! The lines of a script.
 use anyhow::anyhow;
-use script::{Line, Statement};
+use script::Statement;
+use text::ParseError;
 
 /// A statement, and the number of its line.
 #[derive(Drop)]
@@ -22,16 +23,9 @@ pub(crate) fn read(rt: &HostRuntime, text: &[u8]) -> anyhow::Result<Vec<Numbered
         statements: Vec::new(rt.alloc()),
         unreadable: 0,
     };
-    let mut line = 0u64;
-    let mut start = 0usize;
-    for (i, b) in text.iter().enumerate() {
-        if *b == b'\n' {
-            line = line.saturating_add(1);
-            script.add(rt, line, text.get(start..i))?;
-            start = i.saturating_add(1);
-        }
+    for (line, text) in (1u64..).zip(text.split(|b| *b == b'\n')) {
+        script.add(rt, line, text)?;
     }
-    script.add(rt, line.saturating_add(1), text.get(start..))?;
     let Script {
         statements,
         unreadable,
@@ -45,18 +39,15 @@ pub(crate) fn read(rt: &HostRuntime, text: &[u8]) -> anyhow::Result<Vec<Numbered
 
 impl Script {
     /// Adds what a line holds, or tells that it cannot be read.
-    fn add(&mut self, rt: &HostRuntime, line: u64, text: Option<&[u8]>) -> anyhow::Result<()> {
-        let Some(text) = text else {
-            return Ok(());
-        };
-        match script::parse_line(rt.alloc(), text)? {
-            Line::Nothing => {}
-            Line::Statement(statement) => self.statements.push(Numbered { line, statement })?,
-            Line::Unreadable(problem) => {
-                let expected = problem.expected();
-                println!(rt; "line {line}: not understood, expected {expected}")?;
+    fn add(&mut self, rt: &HostRuntime, line: u64, text: &[u8]) -> anyhow::Result<()> {
+        match script::parse_line(rt.alloc(), text) {
+            Ok(None) => {}
+            Ok(Some(statement)) => self.statements.push(Numbered { line, statement })?,
+            Err(ParseError::Unreadable(problem)) => {
+                println!(rt; "line {line}: not understood, expected {problem}")?;
                 self.unreadable = self.unreadable.saturating_add(1);
             }
+            Err(ParseError::Memory(error)) => return Err(error.into()),
         }
         Ok(())
     }

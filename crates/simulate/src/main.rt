@@ -20,18 +20,19 @@ fn main(rt: HostRuntime) -> anyhow::Result<()> {
     run(&rt)
 }
 
+// `inspect` reads its input in the same way: `text`, which both stand on, reads no files, and a crate for these few lines is no plainer.
 fn run(rt: &HostRuntime) -> anyhow::Result<()> {
     let mut args = env::args(rt)?;
     let _program = args.next();
-    let Some(word) = args.next() else {
-        let mut text = Vec::new(rt.alloc());
-        rt.stdin().read_to_end(&mut text)?;
-        return simulate(rt, text.as_slice());
+    let text = match args.next() {
+        Some(word) if word.as_str() == "help" => return help::show(rt),
+        Some(path) => fs::read(rt, path.as_str())?,
+        None => {
+            let mut text = Vec::new(rt.alloc());
+            rt.stdin().read_to_end(&mut text)?;
+            text
+        }
     };
-    if word.as_bytes() == b"help".as_slice() {
-        return help::show(rt);
-    }
-    let text = fs::read(rt, word.as_str())?;
     simulate(rt, text.as_slice())
 }
 

@@ -1,11 +1,11 @@
 //! What is shown of each statement.
 use crate::air::Air;
 use crate::changes::Trouble;
-use crate::setup::name_of;
 use anyhow::anyhow;
 use channel::Role;
 use script::{Call, Who};
 use simulation::{Entry, Event, Outcome};
+use std::fmt;
 use text::Hex;
 
 /// How many octets are shown at most.
@@ -13,85 +13,68 @@ const SHOWN: usize = 64;
 
 /// A call of the script: its line, its end and its name.
 #[derive(Clone, Copy)]
-pub(crate) struct Named {
-    line: u64,
-    pub(crate) role: Role,
-    end: &'static str,
-    call: &'static str,
+pub(crate) struct Named<'a> {
+    pub(crate) line: u64,
+    pub(crate) end: Who,
+    pub(crate) call: &'a Call,
 }
 
-impl Named {
-    pub(crate) fn new(line: u64, who: Who, call: &Call) -> Named {
-        let role = match who {
+impl Named<'_> {
+    /// The role of the end that makes the call.
+    pub(crate) fn role(self) -> Role {
+        match self.end {
             Who::Fob => Role::Fob,
             Who::Mixer => Role::Mixer,
-        };
-        let call = match call {
-            Call::Invite => "invite",
-            Call::Answer(_) => "answer",
-            Call::Prove(_) => "prove",
-            Call::Confirm(_) => "confirm",
-            Call::Finish(_) => "finish",
-            Call::Seal(_) => "seal",
-            Call::Unseal(_) => "unseal",
-            Call::Close => "close",
-        };
-        Named {
-            line,
-            role,
-            end: name_of(who),
-            call,
         }
     }
 }
 
-/// Tells why a statement cannot be carried out; the program ends with it.
-pub(crate) fn stopped(rt: &HostRuntime, line: u64, trouble: Trouble) -> anyhow::Result<()> {
-    let words = trouble.words();
-    println!(rt; "line {line}: {words}")?;
+impl fmt::Display for Named<'_> {
+    fn fmt<W: fmt::Write>(&self, f: &mut fmt::Formatter<W>) -> fmt::Result {
+        let Named { line, end, call } = *self;
+        write!(f, "line {line}: {end} {call}")
+    }
+}
+
+/// A line of the script.
+#[derive(Clone, Copy)]
+pub(crate) struct AtLine(pub(crate) u64);
+
+impl fmt::Display for AtLine {
+    fn fmt<W: fmt::Write>(&self, f: &mut fmt::Formatter<W>) -> fmt::Result {
+        write!(f, "line {}", self.0)
+    }
+}
+
+/// Tells why a statement, or a call, cannot be carried out; the program ends with it.
+pub(crate) fn stopped<P: fmt::Display + Drop>(
+    rt: &HostRuntime,
+    place: P,
+    trouble: Trouble,
+) -> anyhow::Result<()> {
+    println!(rt; "{place}: {trouble}")?;
     Err(anyhow!("\"the script cannot go on\""))
 }
 
-/// The same of a call.
-pub(crate) fn stopped_at(rt: &HostRuntime, named: Named, trouble: Trouble) -> anyhow::Result<()> {
-    let Named {
-        line,
-        end,
-        call,
-        ..
-    } = named;
-    let words = trouble.words();
-    println!(rt; "line {line}: {end} {call}: {words}")?;
-    Err(anyhow!("\"the script cannot go on\""))
-}
-
-/// Shows what a call came to and what it did, of which the log tells after its first `before` entries. A message that the call
-/// wrote is put on the air.
+/// Shows what a call came to and what it did, which is what it entered into the log. A message that it wrote is put on the air.
 pub(crate) fn show(
     rt: &HostRuntime,
-    named: Named,
+    named: Named<'_>,
     outcome: Outcome,
-    log: &[Entry],
-    before: usize,
+    entered: &[Entry],
     air: &mut Air,
 ) -> anyhow::Result<()> {
-    let Named {
-        line,
-        end,
-        call,
-        ..
-    } = named;
-    print!(rt; "line {line}: {end} {call}: ")?;
+    print!(rt; "{named}: ")?;
     match outcome {
         Outcome::NotAllowed => println!(rt; "not allowed in this state, nothing changed")?,
         Outcome::Refused(fault) => println!(rt; "{fault}")?,
         Outcome::Done => {
             println!(rt; "accepted")?;
-            show_events(rt, end, log, before)?;
+            show_events(rt, named.end, entered)?;
         }
         Outcome::Sent(octets) => {
             println!(rt; "accepted")?;
-            show_events(rt, end, log, before)?;
+            show_events(rt, named.end, entered)?;
             show_written(rt, named, octets, air)?;
         }
     }
@@ -101,23 +84,23 @@ pub(crate) fn show(
 /// Puts a message on the air and shows it with its number.
 fn show_written(
     rt: &HostRuntime,
-    named: Named,
+    named: Named<'_>,
     octets: Vec<u8>,
     air: &mut Air,
 ) -> anyhow::Result<()> {
-    match air.write(named.role, octets) {
+    match air.write(named.role(), octets) {
         Ok(number) => {
             print!(rt; "  message {number}: ")?;
             show_octets(rt, air.numbered(number).unwrap_or(&[]))
         }
-        Err(trouble) => stopped_at(rt, named, trouble),
+        Err(trouble) => stopped(rt, named, trouble),
     }
 }
 
-/// Shows what an end did, as the log tells after its first `before` entries.
-fn show_events(rt: &HostRuntime, end: &str, log: &[Entry], before: usize) -> anyhow::Result<()> {
-    for entry in log.iter().skip(before) {
-        match &entry.event {
+/// Shows what an end did in a call.
+fn show_events(rt: &HostRuntime, end: Who, entered: &[Entry]) -> anyhow::Result<()> {
+    for Entry { event, .. } in entered {
+        match event {
             Event::Opens => println!(rt; "  the {end} is open")?,
             Event::Seals {
                 number,

@@ -2,8 +2,9 @@
 use crate::air::Air;
 use crate::changes::{Changes, Trouble, buffer, counted};
 use channel::Role;
+use ends::Both;
 use script::{Payload, Source, Statement, Who};
-use simulation::Call;
+use simulation::{Call, Given};
 use std::alloc::Global;
 use std::mem;
 
@@ -12,8 +13,7 @@ use std::mem;
 pub(crate) struct Stage {
     pub(crate) air: Air,
     changes: Changes,
-    fob_nonce: [u8; 12],
-    mixer_nonce: [u8; 12],
+    nonces: Both<[u8; 12]>,
     /// how many packets were passed back and forth, if any were to be
     pub(crate) passed: Option<u64>,
 }
@@ -24,8 +24,10 @@ impl Stage {
         Stage {
             air: Air::new(heap),
             changes: Changes::new(heap),
-            fob_nonce: [0x0a; 12],
-            mixer_nonce: [0x0b; 12],
+            nonces: Both {
+                fob: [0x0a; 12],
+                mixer: [0x0b; 12],
+            },
             passed: None,
         }
     }
@@ -34,8 +36,8 @@ impl Stage {
     pub(crate) fn take_up(&mut self, statement: &Statement) -> Result<(), Trouble> {
         match statement {
             Statement::Nonce { who, octets } => match who {
-                Who::Fob => self.fob_nonce = *octets,
-                Who::Mixer => self.mixer_nonce = *octets,
+                Who::Fob => self.nonces.fob = *octets,
+                Who::Mixer => self.nonces.mixer = *octets,
             },
             Statement::Lose => self.air.lose_last()?,
             other => self.changes.take_up(other)?,
@@ -56,17 +58,15 @@ impl Stage {
         call: &script::Call,
     ) -> Result<Call, Trouble> {
         let changes = self.take_changes(heap);
-        let message = match source_of(call) {
+        let input = match source_of(call) {
             Some(source) => self.air.deliver(heap, by, source, &changes)?,
             None if changes.touch_message() => return Err(Trouble::GivenNone),
-            None => Vec::new(heap),
+            None => payload_of(heap, call)?,
         };
-        let payload = payload_of(heap, call)?;
         let workspace = buffer(heap, changes.workspace)?;
         let output = buffer(heap, changes.output)?;
         let given = Given {
-            message,
-            payload,
+            input,
             workspace,
             output,
         };
@@ -76,75 +76,36 @@ impl Stage {
     /// The call with what it takes of all this.
     fn hand_over(&self, by: Role, call: &script::Call, given: Given) -> Call {
         match call {
-            script::Call::Seal(_) => Call::Seal {
-                by,
-                payload: given.payload,
-                workspace: given.workspace,
-                output: given.output,
-            },
-            script::Call::Unseal(_) => Call::Unseal {
-                by,
-                message: given.message,
-                workspace: given.workspace,
-                output: given.output,
-            },
-            script::Call::Close => Call::Close { by },
-            _ => self.hand_to_handshake(call, given),
-        }
-    }
-
-    /// The same for a call of the handshake.
-    fn hand_to_handshake(&self, call: &script::Call, given: Given) -> Call {
-        let Given {
-            message,
-            workspace,
-            output,
-            ..
-        } = given;
-        match call {
             script::Call::Invite => Call::Invite {
-                nonce: self.fob_nonce,
-                output,
+                nonce: self.nonces.fob,
+                output: given.output,
             },
             script::Call::Answer(_) => Call::Answer {
-                nonce: self.mixer_nonce,
-                message,
-                workspace,
-                output,
+                nonce: self.nonces.mixer,
+                given,
             },
-            script::Call::Prove(_) => Call::Prove {
-                message,
-                workspace,
-                output,
+            script::Call::Prove(_) => Call::Prove(given),
+            script::Call::Confirm(_) => Call::Confirm(given),
+            script::Call::Finish(_) => Call::Finish {
+                message: given.input,
+                workspace: given.workspace,
             },
-            script::Call::Confirm(_) => Call::Confirm {
-                message,
-                workspace,
-                output,
-            },
-            _ => Call::Finish { message, workspace },
+            script::Call::Seal(_) => Call::Seal { by, given },
+            script::Call::Unseal(_) => Call::Unseal { by, given },
+            script::Call::Close => Call::Close { by },
         }
     }
-}
-
-/// What calls are given; no call takes all of it.
-#[derive(Drop)]
-struct Given {
-    message: Vec<u8>,
-    payload: Vec<u8>,
-    workspace: Vec<u8>,
-    output: Vec<u8>,
 }
 
 /// The source of the message that a call is given, if it is given one.
 fn source_of(call: &script::Call) -> Option<&Source> {
     match call {
-        script::Call::Answer(source) => Some(source),
-        script::Call::Prove(source) => Some(source),
-        script::Call::Confirm(source) => Some(source),
-        script::Call::Finish(source) => Some(source),
-        script::Call::Unseal(source) => Some(source),
-        _ => None,
+        script::Call::Answer(source)
+        | script::Call::Prove(source)
+        | script::Call::Confirm(source)
+        | script::Call::Finish(source)
+        | script::Call::Unseal(source) => Some(source),
+        script::Call::Invite | script::Call::Seal(_) | script::Call::Close => None,
     }
 }
 

@@ -14,102 +14,95 @@ pub(crate) fn show<C: BlockCipher, K: KeyLookup + Drop, L: KeyLookup + Drop>(
 ) -> anyhow::Result<()> {
     println!(rt; "at the end:")?;
     print!(rt; "  fob to mixer: ")?;
-    show_direction(rt, run.log(), Role::Fob, Role::Mixer)?;
+    show_direction(rt, run.log(), Role::Fob)?;
     print!(rt; "  mixer to fob: ")?;
-    show_direction(rt, run.log(), Role::Mixer, Role::Fob)?;
+    show_direction(rt, run.log(), Role::Mixer)?;
     if let Some(passed) = passed {
         println!(rt; "  passed back and forth: {passed} packets, which are not among these")?;
     }
-    show_fob(rt, run.fob())?;
-    show_mixer(rt, run.mixer())
+    show_end(rt, "fob", fob_state(run.fob()))?;
+    show_end(rt, "mixer", mixer_state(run.mixer()))
+}
+
+/// The payloads that went one way: as one end sealed them, and as the other unsealed them.
+#[derive(Drop)]
+struct Direction<'a> {
+    sealed: Vec<&'a [u8]>,
+    unsealed: Vec<&'a [u8]>,
+}
+
+impl<'a> Direction<'a> {
+    /// What the log tells of the payloads from this end.
+    fn new(heap: Global, log: &'a [Entry], from: Role) -> Result<Direction<'a>, AllocError> {
+        let mut sealed = Vec::new(heap);
+        let mut unsealed = Vec::new(heap);
+        for Entry { role, event } in log {
+            match event {
+                Event::Seals { payload, .. } if *role == from => sealed.push(payload.as_slice())?,
+                Event::Unseals { payload, .. } if *role != from => {
+                    unsealed.push(payload.as_slice())?
+                }
+                _ => {}
+            }
+        }
+        Ok(Direction { sealed, unsealed })
+    }
+
+    /// Whether the payloads that came out are those that were sealed, one by one and in order.
+    fn order(&self) -> &'static str {
+        if !self.sealed.as_slice().starts_with(self.unsealed.as_slice()) {
+            return "NOT in order";
+        }
+        match self.sealed.len().saturating_sub(self.unsealed.len()) {
+            0 => "all",
+            1 => "all but the last",
+            _ => "NOT in order",
+        }
+    }
 }
 
 /// Tells how many payloads went from one end to the other, and whether they came out in order.
-fn show_direction(rt: &HostRuntime, log: &[Entry], from: Role, to: Role) -> anyhow::Result<()> {
-    let sealed = sealed_by(rt.alloc(), log, from)?;
-    let unsealed = unsealed_by(rt.alloc(), log, to)?;
-    let (m, n) = (sealed.len(), unsealed.len());
-    let order = order_of(sealed.as_slice(), unsealed.as_slice());
+fn show_direction(rt: &HostRuntime, log: &[Entry], from: Role) -> anyhow::Result<()> {
+    let direction = Direction::new(rt.alloc(), log, from)?;
+    let (m, n) = (direction.sealed.len(), direction.unsealed.len());
+    let order = direction.order();
     println!(rt; "{m} sealed, {n} unsealed: {order}")?;
     Ok(())
 }
 
-/// The payloads that an end sealed.
-fn sealed_by<'a>(heap: Global, log: &'a [Entry], end: Role) -> Result<Vec<&'a [u8]>, AllocError> {
-    let mut payloads = Vec::new(heap);
-    for Entry { role, event } in log {
-        if let Event::Seals { payload, .. } = event
-            && *role == end
-        {
-            payloads.push(payload.as_slice())?;
-        }
-    }
-    Ok(payloads)
-}
-
-/// The payloads that an end unsealed.
-fn unsealed_by<'a>(heap: Global, log: &'a [Entry], end: Role) -> Result<Vec<&'a [u8]>, AllocError> {
-    let mut payloads = Vec::new(heap);
-    for Entry { role, event } in log {
-        if let Event::Unseals { payload, .. } = event
-            && *role == end
-        {
-            payloads.push(payload.as_slice())?;
-        }
-    }
-    Ok(payloads)
-}
-
-/// Whether the payloads that came out are those that were sealed, one by one and in order.
-fn order_of(sealed: &[&[u8]], unsealed: &[&[u8]]) -> &'static str {
-    for (a, b) in sealed.iter().zip(unsealed) {
-        if *a != *b {
-            return "NOT in order";
-        }
-    }
-    match sealed.len().checked_sub(unsealed.len()) {
-        Some(0) => "all",
-        Some(1) => "all but the last",
-        _ => "NOT in order",
-    }
-}
-
-/// Tells what the fob holds.
-fn show_fob<C: BlockCipher, K: KeyLookup>(
-    rt: &HostRuntime,
-    fob: &FobSide<C, K>,
-) -> anyhow::Result<()> {
+/// The fob where it is open, else the word for where its session is.
+fn fob_state<C, K>(fob: &FobSide<C, K>) -> Result<&Open<C, K>, &'static str> {
     match fob {
-        FobSide::Fresh(_, _) => println!(rt; "  fob: fresh")?,
-        FobSide::Invited(_) => println!(rt; "  fob: invited")?,
-        FobSide::Proved(_) => println!(rt; "  fob: proved")?,
-        FobSide::Open(end, _) => show_open(rt, "fob", end)?,
-        FobSide::Closed => println!(rt; "  fob: closed")?,
+        FobSide::Fresh(_, _) => Err("fresh"),
+        FobSide::Invited(_) => Err("invited"),
+        FobSide::Proved(_) => Err("proved"),
+        FobSide::Open(end, _) => Ok(end),
+        FobSide::Closed => Err("closed"),
     }
-    Ok(())
 }
 
-/// Tells what the mixer holds.
-fn show_mixer<C: BlockCipher, L: KeyLookup>(
-    rt: &HostRuntime,
-    mixer: &MixerSide<C, L>,
-) -> anyhow::Result<()> {
+/// The mixer where it is open, else the word for where its session is.
+fn mixer_state<C, L>(mixer: &MixerSide<C, L>) -> Result<&Open<C, L>, &'static str> {
     match mixer {
-        MixerSide::Fresh(_, _) => println!(rt; "  mixer: fresh")?,
-        MixerSide::Answered(_) => println!(rt; "  mixer: answered")?,
-        MixerSide::Open(end, _) => show_open(rt, "mixer", end)?,
-        MixerSide::Closed => println!(rt; "  mixer: closed")?,
+        MixerSide::Fresh(_, _) => Err("fresh"),
+        MixerSide::Answered(_) => Err("answered"),
+        MixerSide::Open(end, _) => Ok(end),
+        MixerSide::Closed => Err("closed"),
     }
-    Ok(())
 }
 
-/// Tells what an open end holds.
-fn show_open<C: BlockCipher, K>(
+/// Tells what an end holds.
+fn show_end<C: BlockCipher, K>(
     rt: &HostRuntime,
     name: &str,
-    end: &Open<C, K>,
+    state: Result<&Open<C, K>, &'static str>,
 ) -> anyhow::Result<()> {
-    let (number, counter) = (end.number(), end.counter());
-    println!(rt; "  {name}: open, number {number}, counter {counter:032x}")?;
+    match state {
+        Ok(end) => {
+            let (number, counter) = (end.number(), end.counter());
+            println!(rt; "  {name}: open, number {number}, counter {counter:032x}")?;
+        }
+        Err(word) => println!(rt; "  {name}: {word}")?,
+    }
     Ok(())
 }

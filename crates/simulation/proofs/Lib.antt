@@ -1,5 +1,3 @@
-mod Recorded
 mod Calls
 mod Sealing
 mod Going
-mod Telling

@@ -6,20 +6,21 @@ use Rattle.fault.specs.declared.Fault.{Fault}
 use Rattle.keyed.proofs.Stream.{keeps_length}
 use Rattle.message.specs.Layout.{number_at}
 use Rattle.message.specs.Reading.{checked}
-use Rattle.message.proofs.Again.{was_checked}
+use Rattle.message.proofs.Again.{passed, went_on, was_checked}
 use Rattle.channel.specs.declared.Open.{Open}
 use Rattle.channel.specs.Packets.{seals_at, data_in, tag_of, crypted, packet_tag, seal_check, seal_end, seal_output, unseal_check, unseal_end, unseal_output}
+use Rattle.simulation.specs.Outcomes.{sent, told, seal_came}
 use Rattle.runs.specs.History.{sends, accepts, seals, unseals, sealed_by, unsealed_by}
 use Rattle.runs.specs.Unaltered.{Blocks}
-use Rattle.simulation.proofs.Calls.{past, held, after_check}
+use Rattle.channel.proofs.Checks.{after_check}
 use Rattle.runs.proofs.Fields.{tag_12, Packs, written-packs}
 
 -- how many octets a packet has that passed the check
 pub packet_long : (p : ℕ) (m : List ℕ) → checked 5 p m ≡ Ok tt → (number_at m 6 ≤ 4096) × (length m ≡ 21 + number_at m 6)
 packet_long p m h =
-    let a = past (ltb (length m) 9) _ _ (was_checked 5 p m h).lengths in
-    let b = past (ltb 4096 (number_at m 6)) _ _ a.1 in
-    let c = held (eqb (length m) (21 + number_at m 6)) _ _ b.1 in
+    let a = went_on (ltb (length m) 9) _ _ (was_checked 5 p m h).lengths in
+    let b = went_on (ltb 4096 (number_at m 6)) _ _ a.1 in
+    let c = passed (eqb (length m) (21 + number_at m 6)) _ _ b.1 in
     (ltb-false 4096 (number_at m 6) b.0, eqb-true (length m) (21 + number_at m 6) c.0)
 
 -- what seal accepts
@@ -30,11 +31,11 @@ pub record Sealed {C K : Type 0} (x : Open C K) (p : List ℕ) (n : ℕ) : Type 
 
 pub sealed_as : {C K : Type 0} (x : Open C K) (p w o : List ℕ) (n : ℕ) → seal_check x p w o ≡ Ok n → Sealed x p n
 sealed_as x p w o n h =
-    let a = past (ltb (length w) 256) _ _ h in
-    let b = past (ltb 4096 (length p)) _ _ a.1 in
-    let c = past (ltb (length o) (21 + length p)) _ _ b.1 in
-    let d = past (leb 16777215 x.epoch.number) _ _ c.1 in
-    let t = past (not (seals_at x.role x.epoch.number)) _ _ d.1 in
+    let a = went_on (ltb (length w) 256) _ _ h in
+    let b = went_on (ltb 4096 (length p)) _ _ a.1 in
+    let c = went_on (ltb (length o) (21 + length p)) _ _ b.1 in
+    let d = went_on (leb 16777215 x.epoch.number) _ _ c.1 in
+    let t = went_on (not (seals_at x.role x.epoch.number)) _ _ d.1 in
     record { early = leb-false 16777215 x.epoch.number d.0; small = ltb-false 4096 (length p) b.0; size = cc t.1 }
 
 same_size : (a b c d : ℕ) → ◌≡◌ {A = Result (ℕ × ℕ) Fault} (Ok (a, b)) (Ok (c, d)) → c ≡ a
@@ -66,22 +67,23 @@ module _ {C K : Type 0} (pid : ℕ) (e : List ℕ → List ℕ → List ℕ) whe
             ∙ ap (λ v. sends tg ∷ seals (x.epoch.number + 1) v p ∷ []) ec ∙ ap (λ v. v.events) (sym j),
       )
 
+  pub seal_tells :
+      (x : Open C K) (p w o out : List ℕ) (n : ℕ) → Ok n ≡ seal_check x p w o → out ≡ take n (seal_output pid e x p w o) → sent out ≡ seal_came pid e x p w o
+  seal_tells x p w o out n h eo =
+      ap sent (eo ∙ ap (λ v. take v (seal_output pid e x p w o)) (sealed_as x p w o n (sym h)).size)
+      ∙ ap (told (sent (take (21 + length p) (seal_output pid e x p w o)))) h
+
   unsealed_as_lem : (x : Open C K) (m w o : List ℕ) (size number : ℕ) → Ok (size, number) ≡ unseal_check pid e x m w o → (size ≡ number_at m 6) × (checked 5 pid m ≡ Ok tt)
   unsealed_as_lem x m w o size number h =
-      let a = past (ltb (length w) 256) _ _ (sym h) in
-      let b = past (ltb (length o) 4096) _ _ a.1 in
-      let c = past (leb 16777215 x.epoch.number) _ _ b.1 in
-      let d = past (seals_at x.role x.epoch.number) _ _ c.1 in
+      let a = went_on (ltb (length w) 256) _ _ (sym h) in
+      let b = went_on (ltb (length o) 4096) _ _ a.1 in
+      let c = went_on (leb 16777215 x.epoch.number) _ _ b.1 in
+      let d = went_on (seals_at x.role x.epoch.number) _ _ c.1 in
       let f = after_check (checked 5 pid m) _ d.1 in
-      let g = past (leb (number_at m 3) x.epoch.number) _ _ f.1 in
-      let k = past (ltb (x.epoch.number + 1) (number_at m 3)) _ _ g.1 in
-      let t = held (bytes_eq (packet_tag e x.epoch (number_at m 3) (data_in m)) (tag_of m)) _ _ k.1 in
+      let g = went_on (leb (number_at m 3) x.epoch.number) _ _ f.1 in
+      let k = went_on (ltb (x.epoch.number + 1) (number_at m 3)) _ _ g.1 in
+      let t = passed (bytes_eq (packet_tag e x.epoch (number_at m 3) (data_in m)) (tag_of m)) _ _ k.1 in
       (same_size (number_at m 6) (number_at m 3) size number t.1, f.0)
-
-  pub unseal_small : (x : Open C K) (m w o : List ℕ) (size number : ℕ) → Ok (size, number) ≡ unseal_check pid e x m w o → size ≤ 4096
-  unseal_small x m w o size number h =
-      let s = unsealed_as_lem x m w o size number h in
-      omega (arith, s.0, (packet_long pid m s.1).0)
 
   pub unseal_does :
       (x y : Open C K) (m w o out t : List ℕ) (size number : ℕ) → Ok (size, number) ≡ unseal_check pid e x m w o → y ≡ unseal_end x (Ok (size, number)) →

@@ -1,8 +1,8 @@
 -- What a call came to, as it is told: whether it was allowed and accepted, and the message that it wrote.
 use Rattle.std.specs.Prelude.{ℕ, ◌+◌, List, length, take, Ok, Err, vec_items, Result}
 use Rattle.fault.specs.declared.Fault.{Fault}
-use Rattle.lookup.specs.declared.Reply.{Reply}
-use Rattle.channel.specs.declared.Role.TheVariants.{Fob as AtFob, Mixer as AtMixer}
+use Rattle.lookup.specs.Replies.{Reply}
+use Rattle.ends.specs.declared.Role.TheVariants.{Fob as AtFob, Mixer as AtMixer}
 use Rattle.channel.specs.declared.Open.{Open}
 use Rattle.channel.specs.declared.NotStarted.{NotStarted}
 use Rattle.channel.specs.declared.Refused.{Refused}

@@ -51,12 +51,12 @@ pub record Does {S : Type 0} (r : Move S) (d : Done S) : Type 0 where
 -- a call that is made, with what its buffers hold
 abbrev pub call_in : MadeCall → Call
 call_in (Invite n o) = invite n (vec_items o)
-call_in (Answer n m w o) = answer n (vec_items m) (vec_items w) (vec_items o)
-call_in (Prove m w o) = prove (vec_items m) (vec_items w) (vec_items o)
-call_in (Confirm m w o) = confirm (vec_items m) (vec_items w) (vec_items o)
+call_in (Answer n g) = answer n (vec_items g.input) (vec_items g.workspace) (vec_items g.output)
+call_in (Prove g) = prove (vec_items g.input) (vec_items g.workspace) (vec_items g.output)
+call_in (Confirm g) = confirm (vec_items g.input) (vec_items g.workspace) (vec_items g.output)
 call_in (Finish m w) = finish (vec_items m) (vec_items w)
-call_in (Seal x p w o) = seal x (vec_items p) (vec_items w) (vec_items o)
-call_in (Unseal x m w o) = unseal x (vec_items m) (vec_items w) (vec_items o)
+call_in (Seal x g) = seal x (vec_items g.input) (vec_items g.workspace) (vec_items g.output)
+call_in (Unseal x g) = unseal x (vec_items g.input) (vec_items g.workspace) (vec_items g.output)
 call_in (Close x) = close x
 
 -- a run as a history; the keyed results are not recorded

@@ -8,4 +8,4 @@ mod run;
 mod sides;
 
 pub use record::{Entry, Event, Outcome};
-pub use run::{Call, Run, simulate};
+pub use run::{Call, Given, Run, simulate};

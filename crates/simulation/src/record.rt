@@ -66,6 +66,7 @@ pub struct Entry {
 }
 
 /// The events of one call, the latest first.
+// Not an array of three options, which could have gaps and which each call would have to fill up; a `Vec` could want memory.
 #[derive(Drop)]
 pub(crate) enum Events {
     Nothing,
@@ -75,6 +76,7 @@ pub(crate) enum Events {
 }
 
 /// What a call came to.
+// Not a `Result` of an `Option`, in which neither `None` nor the two sorts of errors would say what they mean.
 #[derive(Drop)]
 pub enum Outcome {
     /// the end is not in the state that the call is for
@@ -107,23 +109,40 @@ impl<S> Move<S> {
             outcome,
         }
     }
+
+    /// Enters the events into the log, in which there is room for three: the end's next state, and what the call came to.
+    // Not a struct that has this room as its fact, which is no plainer: it holds from a `reserve` to the entry alone.
+    pub(crate) fn enter(self, role: Role, log: &mut Vec<Entry>) -> (S, Outcome)
+        requires { vec_len log.old + 3 ≤ vec_capacity log.old }
+        ensures value { result ≡ (self.next, self.outcome) }
+        ensures log { log_of log.new ≡ logged role (events_in self.events) (log_of log.old) }
+        ensures room { (vec_len log.new ≤ vec_len log.old + 3) × (vec_capacity log.new ≡ vec_capacity log.old) }
+    {
+        let Move {
+            next,
+            events,
+            outcome,
+        } = self;
+        enter(log, role, events);
+        (next, outcome)
+    }
 }
 
 /// The `N` octets from `at` on; zeros where the octets end before.
+// `channel` has the like for octets that are known to be long enough; this one asks nothing, so no caller has to prove a length.
 pub(crate) fn field<const N: usize>(octets: &[u8], at: usize) -> [u8; N]
     ensures value { at + N ≤ length octets.now → result ≡ take N (drop at octets.now) }
 {
-    if octets.len() < at || octets.len() - at < N {
-        return [0; N];
+    if let Some(rest) = octets.get(at..)
+        && let Some((part, _)) = rest.split_first_chunk()
+    {
+        return *part;
     }
-    match <[u8; N]>::try_from(&octets[at..at + N]) {
-        Ok(part) => part,
-        Err(_) => [0; N],
-    }
+    [0; N]
 }
 
 /// Enters the events of a call into the log, in which there is room for three.
-pub(crate) fn enter(log: &mut Vec<Entry>, role: Role, events: Events)
+fn enter(log: &mut Vec<Entry>, role: Role, events: Events)
     requires { vec_len log.old + 3 ≤ vec_capacity log.old }
     ensures log { log_of log.new ≡ logged role (events_in events) (log_of log.old) }
     ensures room { (vec_len log.new ≤ vec_len log.old + 3) × (vec_capacity log.new ≡ vec_capacity log.old) }

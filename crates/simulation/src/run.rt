@@ -1,19 +1,28 @@
 //! A fob and a mixer, driven through calls in any order, and the record of what the calls did.
 ghost use Rattle.std.specs.Prelude.{◌≡◌, ◌+◌, ◌*◌, ◌≤◌, [], ◌∷◌, map, IfOk, vec_len, vec_capacity};
 ghost use Rattle.cipher.specs.Cipher.{E};
-ghost use Rattle.channel.specs.declared.Role.TheVariants.{Fob as AtFob, Mixer as AtMixer};
+ghost use Rattle.ends.specs.declared.Role.TheVariants.{Fob as AtFob, Mixer as AtMixer};
 ghost use Rattle.runs.specs.History.{logged};
 ghost use Rattle.simulation.specs.Outcomes.{outcome_in, came};
 ghost use Rattle.simulation.specs.Simulation.{events_in, log_of, call_in, calls_made, Makes, Simulates, Follows};
 ghost use Rattle.runs.specs.History.{lookups};
 
-use crate::record::{Entry, Move, Outcome, enter};
+use crate::packets::Side;
+use crate::record::{Entry, Move, Outcome};
 use crate::{packets, sides};
 use channel::{Fob, Mixer, Role};
 use cipher::BlockCipher;
 use lookup::KeyLookup;
 use runs::{FobSide, MixerSide};
 use std::alloc::{AllocError, Global};
+
+/// What a call is given: a message or a payload, and the buffers that are lent to it.
+#[derive(Drop)]
+pub struct Given {
+    pub input: Vec<u8>,
+    pub workspace: Vec<u8>,
+    pub output: Vec<u8>,
+}
 
 /// A call, with all that is handed to it and lent to it.
 #[derive(Drop)]
@@ -24,35 +33,21 @@ pub enum Call {
     },
     Answer {
         nonce: [u8; 12],
-        message: Vec<u8>,
-        workspace: Vec<u8>,
-        output: Vec<u8>,
+        given: Given,
     },
-    Prove {
-        message: Vec<u8>,
-        workspace: Vec<u8>,
-        output: Vec<u8>,
-    },
-    Confirm {
-        message: Vec<u8>,
-        workspace: Vec<u8>,
-        output: Vec<u8>,
-    },
+    Prove(Given),
+    Confirm(Given),
     Finish {
         message: Vec<u8>,
         workspace: Vec<u8>,
     },
     Seal {
         by: Role,
-        payload: Vec<u8>,
-        workspace: Vec<u8>,
-        output: Vec<u8>,
+        given: Given,
     },
     Unseal {
         by: Role,
-        message: Vec<u8>,
-        workspace: Vec<u8>,
-        output: Vec<u8>,
+        given: Given,
     },
     Close {
         by: Role,
@@ -78,21 +73,12 @@ fn fob_did<C, K, L>(
     ensures room { (vec_len result.0.log ≤ vec_len log + 3) × (vec_capacity result.0.log ≡ vec_capacity log) }
     ensures outcome { result.1 ≡ done.outcome }
 {
-    let Move {
-        next,
-        events,
-        outcome,
-    } = done;
-    enter(&mut log, Role::Fob, events);
-    let run = Run {
-        fob: next,
-        mixer,
-        log,
-    };
-    (run, outcome)
+    let (fob, outcome) = done.enter(Role::Fob, &mut log);
+    (Run { fob, mixer, log }, outcome)
 }
 
 /// The same of a call of the mixer.
+// Two functions, since each puts back another field of the run.
 fn mixer_did<C, K, L>(
     fob: FobSide<C, K>,
     done: Move<MixerSide<C, L>>,
@@ -104,18 +90,8 @@ fn mixer_did<C, K, L>(
     ensures room { (vec_len result.0.log ≤ vec_len log + 3) × (vec_capacity result.0.log ≡ vec_capacity log) }
     ensures outcome { result.1 ≡ done.outcome }
 {
-    let Move {
-        next,
-        events,
-        outcome,
-    } = done;
-    enter(&mut log, Role::Mixer, events);
-    let run = Run {
-        fob,
-        mixer: next,
-        log,
-    };
-    (run, outcome)
+    let (mixer, outcome) = done.enter(Role::Mixer, &mut log);
+    (Run { fob, mixer, log }, outcome)
 }
 
 impl<C: BlockCipher, K: KeyLookup + Drop, L: KeyLookup + Drop> Run<C, K, L> {
@@ -157,8 +133,7 @@ impl<C: BlockCipher, K: KeyLookup + Drop, L: KeyLookup + Drop> Run<C, K, L> {
         ensures value { result ≡ self.log }
     {
         let Run { fob, mixer, log } = self;
-        let _fob = packets::fob_end(fob);
-        let _mixer = packets::mixer_end(mixer);
+        let (_fob, _mixer) = (fob.end(), mixer.end());
         log
     }
 
@@ -220,71 +195,28 @@ impl<C: BlockCipher, K: KeyLookup + Drop, L: KeyLookup + Drop> Run<C, K, L> {
     {
         let Run { fob, mixer, log } = self;
         match call {
-            Call::Invite { nonce, output } => fob_did(
-                sides::invite(fob, nonce, output),
-                mixer,
-                log,
-            ),
-            Call::Answer {
-                nonce,
-                message,
-                workspace,
-                output,
-            } => mixer_did(
-                fob,
-                sides::answer(mixer, nonce, message, workspace, output),
-                log,
-            ),
-            Call::Prove {
-                message,
-                workspace,
-                output,
-            } => fob_did(sides::prove(fob, message, workspace, output), mixer, log),
-            Call::Confirm {
-                message,
-                workspace,
-                output,
-            } => mixer_did(fob, sides::confirm(mixer, message, workspace, output), log),
+            Call::Invite { nonce, output } => {
+                fob_did(sides::invite(fob, nonce, output), mixer, log)
+            }
+            Call::Answer { nonce, given } => {
+                mixer_did(fob, sides::answer(mixer, nonce, given), log)
+            }
+            Call::Prove(given) => fob_did(sides::prove(fob, given), mixer, log),
+            Call::Confirm(given) => mixer_did(fob, sides::confirm(mixer, given), log),
             Call::Finish { message, workspace } => {
                 fob_did(sides::finish(fob, message, workspace), mixer, log)
             }
-            Call::Seal {
-                by,
-                payload,
-                workspace,
-                output,
-            } => match by {
-                Role::Fob => fob_did(
-                    packets::fob_seal(fob, payload, workspace, output),
-                    mixer,
-                    log,
-                ),
-                Role::Mixer => mixer_did(
-                    fob,
-                    packets::mixer_seal(mixer, payload, workspace, output),
-                    log,
-                ),
+            Call::Seal { by, given } => match by {
+                Role::Fob => fob_did(packets::seal(fob, given), mixer, log),
+                Role::Mixer => mixer_did(fob, packets::seal(mixer, given), log),
             },
-            Call::Unseal {
-                by,
-                message,
-                workspace,
-                output,
-            } => match by {
-                Role::Fob => fob_did(
-                    packets::fob_unseal(fob, message, workspace, output),
-                    mixer,
-                    log,
-                ),
-                Role::Mixer => mixer_did(
-                    fob,
-                    packets::mixer_unseal(mixer, message, workspace, output),
-                    log,
-                ),
+            Call::Unseal { by, given } => match by {
+                Role::Fob => fob_did(packets::unseal(fob, given), mixer, log),
+                Role::Mixer => mixer_did(fob, packets::unseal(mixer, given), log),
             },
             Call::Close { by } => match by {
-                Role::Fob => fob_did(packets::fob_close(fob), mixer, log),
-                Role::Mixer => mixer_did(fob, packets::mixer_close(mixer), log),
+                Role::Fob => fob_did(packets::close(fob), mixer, log),
+                Role::Mixer => mixer_did(fob, packets::close(mixer), log),
             },
         }
     }

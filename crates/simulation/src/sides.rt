@@ -6,9 +6,11 @@ ghost use Rattle.simulation.specs.Outcomes.{outcome_in, invite_came, answer_came
 ghost use Rattle.simulation.specs.Simulation.{Does};
 
 use crate::record::{Event, Events, Move, Outcome, field};
+use crate::run::Given;
 use channel::{Nonce, NotStarted, Refused};
 use cipher::BlockCipher;
 use lookup::KeyLookup;
+use message::{ACT, VERIFY};
 use runs::{FobSide, MixerSide};
 
 /// Invites, if the fob has not been called yet.
@@ -25,7 +27,7 @@ pub(crate) fn invite<C: BlockCipher, K: KeyLookup>(
             let label = key.label();
             match fob.invite(key, Nonce::new(nonce), output.as_mut_slice()) {
                 Ok(invited) => {
-                    output.truncate(40);
+                    output.truncate(ACT);
                     Move {
                         next: FobSide::Invited(invited),
                         events: Events::One(Event::Offers { label, nonce }),
@@ -49,19 +51,22 @@ pub(crate) fn invite<C: BlockCipher, K: KeyLookup>(
 /// Proves, if the fob has invited.
 pub(crate) fn prove<C: BlockCipher, K: KeyLookup>(
     side: FobSide<C, K>,
-    message: Vec<u8>,
-    mut workspace: Vec<u8>,
-    mut output: Vec<u8>,
+    given: Given,
 ) -> Move<FobSide<C, K>>
-    ensures does { Does result (prove_at C.BlockCipher.protocol (E C.BlockCipher.schedule C.BlockCipher.worked) K.KeyLookup.own K.KeyLookup.replies side message.items workspace.items output.items) }
-    ensures outcome { outcome_in result.outcome ≡ prove_came C.BlockCipher.protocol (E C.BlockCipher.schedule C.BlockCipher.worked) K.KeyLookup.own K.KeyLookup.replies side message.items workspace.items output.items }
+    ensures does { Does result (prove_at C.BlockCipher.protocol (E C.BlockCipher.schedule C.BlockCipher.worked) K.KeyLookup.own K.KeyLookup.replies side given.input.items given.workspace.items given.output.items) }
+    ensures outcome { outcome_in result.outcome ≡ prove_came C.BlockCipher.protocol (E C.BlockCipher.schedule C.BlockCipher.worked) K.KeyLookup.own K.KeyLookup.replies side given.input.items given.workspace.items given.output.items }
 {
+    let Given {
+        input: message,
+        mut workspace,
+        mut output,
+    } = given;
     match side {
         FobSide::Invited(invited) => {
             let (space, out) = (workspace.as_mut_slice(), output.as_mut_slice());
             match invited.prove(message.as_slice(), space, out) {
                 Ok(proved) => {
-                    output.truncate(15);
+                    output.truncate(VERIFY);
                     Move {
                         next: FobSide::Proved(proved),
                         events: Events::Three(
@@ -111,20 +116,23 @@ pub(crate) fn finish<C: BlockCipher, K: KeyLookup>(
 pub(crate) fn answer<C: BlockCipher, K: KeyLookup>(
     side: MixerSide<C, K>,
     nonce: [u8; 12],
-    message: Vec<u8>,
-    mut workspace: Vec<u8>,
-    mut output: Vec<u8>,
+    given: Given,
 ) -> Move<MixerSide<C, K>>
-    ensures does { Does result (answer_at C.BlockCipher.protocol (E C.BlockCipher.schedule C.BlockCipher.worked) K.KeyLookup.own K.KeyLookup.replies side nonce message.items workspace.items output.items) }
-    ensures outcome { outcome_in result.outcome ≡ answer_came C.BlockCipher.protocol (E C.BlockCipher.schedule C.BlockCipher.worked) K.KeyLookup.own K.KeyLookup.replies side nonce message.items workspace.items output.items }
+    ensures does { Does result (answer_at C.BlockCipher.protocol (E C.BlockCipher.schedule C.BlockCipher.worked) K.KeyLookup.own K.KeyLookup.replies side nonce given.input.items given.workspace.items given.output.items) }
+    ensures outcome { outcome_in result.outcome ≡ answer_came C.BlockCipher.protocol (E C.BlockCipher.schedule C.BlockCipher.worked) K.KeyLookup.own K.KeyLookup.replies side nonce given.input.items given.workspace.items given.output.items }
 {
+    let Given {
+        input: message,
+        mut workspace,
+        mut output,
+    } = given;
     match side {
         MixerSide::Fresh(mixer, key) => {
             let label = key.label();
             let (space, out) = (workspace.as_mut_slice(), output.as_mut_slice());
             match mixer.answer(key, Nonce::new(nonce), message.as_slice(), space, out) {
                 Ok(answered) => {
-                    output.truncate(40);
+                    output.truncate(ACT);
                     Move {
                         next: MixerSide::Answered(answered),
                         events: Events::Two(
@@ -151,19 +159,22 @@ pub(crate) fn answer<C: BlockCipher, K: KeyLookup>(
 /// Confirms, if the mixer has answered.
 pub(crate) fn confirm<C: BlockCipher, K: KeyLookup>(
     side: MixerSide<C, K>,
-    message: Vec<u8>,
-    mut workspace: Vec<u8>,
-    mut output: Vec<u8>,
+    given: Given,
 ) -> Move<MixerSide<C, K>>
-    ensures does { Does result (confirm_at C.BlockCipher.protocol (E C.BlockCipher.schedule C.BlockCipher.worked) side message.items workspace.items output.items) }
-    ensures outcome { outcome_in result.outcome ≡ confirm_came C.BlockCipher.protocol (E C.BlockCipher.schedule C.BlockCipher.worked) side message.items workspace.items output.items }
+    ensures does { Does result (confirm_at C.BlockCipher.protocol (E C.BlockCipher.schedule C.BlockCipher.worked) side given.input.items given.workspace.items given.output.items) }
+    ensures outcome { outcome_in result.outcome ≡ confirm_came C.BlockCipher.protocol (E C.BlockCipher.schedule C.BlockCipher.worked) side given.input.items given.workspace.items given.output.items }
 {
+    let Given {
+        input: message,
+        mut workspace,
+        mut output,
+    } = given;
     match side {
         MixerSide::Answered(answered) => {
             let (space, out) = (workspace.as_mut_slice(), output.as_mut_slice());
             match answered.confirm(message.as_slice(), space, out) {
                 Ok((end, ticket)) => {
-                    output.truncate(15);
+                    output.truncate(VERIFY);
                     Move {
                         next: MixerSide::Open(end, ticket),
                         events: Events::Three(

@@ -44,6 +44,7 @@ impl Words {
         ensures value { result ≡ rounds (λ i. word i keys.now) 32 self }
     {
         let mut state = self;
+        // By number: round i takes word i of the schedule, and chunks of the keys, in the same order, are no plainer.
         for i in 0..32 {
             state = state.after_round(read_word(keys, i));
         }
@@ -67,9 +68,7 @@ fn read_word(from: &[u8], i: usize) -> u64
     ensures value { result ≡ word i from.now }
 {
     let at = 8 * i;
-    let mut octets = [0; 8];
-    octets.copy_from_slice(&from[at..at + 8]);
-    u64::from_be_bytes(octets)
+    u64::from_be_bytes(<[u8; 8]>::try_from(&from[at..at + 8]).unwrap())
 }
 
 /// Writes the 32 round keys of `key` at the start of the workspace.
@@ -78,6 +77,7 @@ fn write_schedule(key: &[u8; 16], workspace: &mut [u8])
     ensures workspace { workspace.new ≡ prepared (schedule key.now) workspace.old }
 {
     let mut state = Words::read(key);
+    // By number: it is itself the key of a step, and `chunks_exact_mut` would leave what is written unknown to the proof.
     for round in 0..32 {
         let at = 8 * round;
         workspace[at..at + 8].copy_from_slice(&state.y.to_be_bytes());

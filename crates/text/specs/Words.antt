@@ -1,8 +1,6 @@
 -- Words parted by blanks, decimal numbers, and octets in hexadecimal.
-use Rattle.std.specs.Prelude.{ℕ, ◌+◌, ◌-◌, ◌*◌, ◌/◌, ◌%◌, Bool, cond, not, ◌&&◌, ◌||◌, List, [], map, length, take, drop, Some, None, fold, Option, ◌==◌, nat_le, slice_index}
+use Rattle.std.specs.Prelude.{◌≡◌, ℕ, ◌+◌, ◌-◌, ◌*◌, ◌/◌, ◌%◌, Bool, cond, not, ◌&&◌, ◌||◌, List, [], map, length, take, drop, Some, None, fold, Option, ◌==◌, nat_le, slice_index}
 use Rattle.std.specs.List.{range_with_len, prefix_len}
-use Rattle.text.specs.declared.Class.{Class}
-use Rattle.text.specs.declared.Class.TheVariants.{Blank, Word, Digit, Hex}
 
 -- space, tab and carriage return part words
 abbrev pub blank : ℕ → Bool
@@ -16,26 +14,28 @@ digit b = nat_le 48 b && nat_le b 57
 abbrev pub hex_digit : ℕ → Bool
 hex_digit b = digit b || (nat_le 65 b && nat_le b 70) || (nat_le 97 b && nat_le b 102)
 
-abbrev pub belongs : Class → ℕ → Bool
-belongs Blank b = blank b
-belongs Word b = not (blank b)
-belongs Digit b = digit b
-belongs Hex b = hex_digit b
+-- what calls return of a character is what `sort` says of it
+abbrev pub Tests : (ℕ → Bool → Type 0) → (ℕ → Bool) → Type 0
+Tests post sort = (b : ℕ) (r : Bool) → post b r → r ≡ sort b
 
--- every character of the word belongs to the class
-abbrev pub all_in : Class → List ℕ → Bool
-all_in c w = prefix_len (belongs c) w == length w
+-- what is no blank belongs to a word
+abbrev pub no_blank : ℕ → Bool
+no_blank b = not (blank b)
+
+-- every character of the word passes the test
+abbrev pub all_in : (ℕ → Bool) → List ℕ → Bool
+all_in test w = prefix_len test w == length w
 
 -- a text after the blanks at its start
 abbrev pub trimmed : List ℕ → List ℕ
-trimmed s = drop (prefix_len (belongs Blank) s) s
+trimmed s = drop (prefix_len blank s) s
 
 -- the first word, and what comes after it
 abbrev pub word_of : List ℕ → List ℕ
-word_of s = take (prefix_len (belongs Word) (trimmed s)) (trimmed s)
+word_of s = take (prefix_len no_blank (trimmed s)) (trimmed s)
 
 abbrev pub rest_of : List ℕ → List ℕ
-rest_of s = drop (prefix_len (belongs Word) (trimmed s)) (trimmed s)
+rest_of s = drop (prefix_len no_blank (trimmed s)) (trimmed s)
 
 -- the value of decimal digits
 abbrev pub decimal_value : List ℕ → ℕ
@@ -43,7 +43,7 @@ decimal_value w = fold (λ a b. a * 10 + (b - 48)) 0 w
 
 -- a number is one to nine decimal digits
 abbrev pub number_of : List ℕ → Option ℕ
-number_of w = cond (nat_le 1 (length w) && nat_le (length w) 9 && all_in Digit w) (Some (decimal_value w)) None
+number_of w = cond (nat_le 1 (length w) && nat_le (length w) 9 && all_in digit w) (Some (decimal_value w)) None
 
 -- the value of a hexadecimal digit
 abbrev pub hex_value : ℕ → ℕ
@@ -57,4 +57,4 @@ pairs w n = map (λ i. hex_value (slice_index w (2 * i)) * 16 + hex_value (slice
 abbrev pub octets_in : List ℕ → Option (List ℕ)
 octets_in w =
     cond (length w == 1 && slice_index w 0 == 45) (Some [])
-    (cond (nat_le 1 (length w) && length w % 2 == 0 && all_in Hex w) (Some (pairs w (length w / 2))) None)
+    (cond (nat_le 1 (length w) && length w % 2 == 0 && all_in hex_digit w) (Some (pairs w (length w / 2))) None)

@@ -1,47 +1,46 @@
 //! Lines of text: words parted by blanks, decimal numbers, and octets in hexadecimal.
 #![tactic(auto)]
 
-ghost use Rattle.std.specs.Prelude.{◌≡◌, ℕ, ◌/◌, ◌≤◌, List, length, IfOk, vec_items};
+ghost use Rattle.std.specs.Prelude.{◌≡◌, ℕ, ◌/◌, ◌≤◌, Bool, List, length, IfOk, vec_items};
 ghost use Rattle.std.specs.Option.{option_map};
 ghost use Rattle.std.specs.List.{prefix_len};
-ghost use Rattle.text.specs.Words.{belongs, hex_digit, word_of, rest_of, number_of, hex_value, pairs, octets_in};
+ghost use Rattle.text.specs.declared.ParseError.TheVariants.{Memory};
+ghost use Rattle.text.specs.Words.{Tests, blank, hex_digit, word_of, rest_of, number_of, hex_value, pairs, octets_in};
 
 use std::alloc::{AllocError, Global};
 use std::fmt;
 
-/// A class of characters.
-#[derive(Clone, Copy)]
-enum Class {
-    Blank,
-    Word,
-    Digit,
-    Hex,
+/// Why a text was not read.
+#[derive(Drop)]
+pub enum ParseError<P> {
+    /// memory was wanting
+    Memory(AllocError),
+    /// what is wrong with the text
+    Unreadable(P),
 }
 
-impl Class {
-    fn has(self, b: u8) -> bool
-        ensures value { result ≡ belongs self b }
-    {
-        match self {
-            Class::Blank => b == 32 || b == 9 || b == 13,
-            Class::Word => !(b == 32 || b == 9 || b == 13),
-            Class::Digit => 48 <= b && b <= 57,
-            Class::Hex => 48 <= b && b <= 57 || 65 <= b && b <= 70 || 97 <= b && b <= 102,
-        }
-    }
+impl<P> From<AllocError> for ParseError<P> {
+    ghost from_gives = { λ e r. r ≡ Memory e };
 
-    /// How many characters at the start of the text belong to the class.
-    fn run_of(self, text: &[u8]) -> usize
-        ensures value { result ≡ prefix_len (belongs self) text.now }
-        ensures within { result ≤ length text.now }
-    {
-        for (i, b) in text.iter().enumerate() {
-            if !self.has(*b) {
-                return i;
-            }
-        }
-        text.len()
+    fn from(e: AllocError) -> ParseError<P> {
+        ParseError::Memory(e)
     }
+}
+
+/// Whether a character parts words.
+fn is_blank(b: u8) -> bool
+    ensures value { result ≡ blank b }
+{
+    matches!(b, b' ' | b'\t' | b'\r')
+}
+
+/// How many characters at the start of the text pass the test.
+fn run_of<F: Fn(u8) -> bool>(text: &[u8], is: F) -> usize
+    requires { F.IsAlwaysCallable is }
+    ensures value { (sort : ℕ → Bool) → Tests (F.post is) sort → result ≡ prefix_len sort text.now }
+    ensures within { result ≤ length text.now }
+{
+    text.iter().take_while(|b| is(**b)).count()
 }
 
 /// The first word of a text, and the text after it.
@@ -49,15 +48,15 @@ pub fn split_word(text: &[u8]) -> (&[u8], &[u8])
     ensures first { result.0.now ≡ word_of text.now }
     ensures second { result.1.now ≡ rest_of text.now }
 {
-    let (_, trimmed) = text.split_at(Class::Blank.run_of(text));
-    trimmed.split_at(Class::Word.run_of(trimmed))
+    let (_, trimmed) = text.split_at(run_of(text, is_blank));
+    trimmed.split_at(run_of(trimmed, |b| !is_blank(b)))
 }
 
 /// The value of one to nine decimal digits; none of anything else.
 pub fn number(word: &[u8]) -> Option<u32>
     ensures value { result ≡ number_of word.now }
 {
-    if word.is_empty() || word.len() > 9 || Class::Digit.run_of(word) != word.len() {
+    if word.is_empty() || word.len() > 9 || run_of(word, |b| b.is_ascii_digit()) != word.len() {
         return None;
     }
     let mut value = 0u32;
@@ -71,12 +70,10 @@ pub fn number(word: &[u8]) -> Option<u32>
 fn hex_value(b: u8) -> u8
     ensures value { result ≡ hex_value b }
 {
-    if b <= 57 {
-        b.saturating_sub(48)
-    } else if b <= 70 {
-        b.saturating_sub(55)
-    } else {
-        b.saturating_sub(87)
+    match b {
+        0..=b'9' => b.saturating_sub(b'0'),
+        b':'..=b'F' => b.saturating_sub(b'A' - 10),
+        _ => b.saturating_sub(b'a' - 10),
     }
 }
 
@@ -86,8 +83,9 @@ fn hex_pairs(heap: Global, word: &[u8]) -> Result<Vec<u8>, AllocError>
     ensures value { IfOk result (λ v. v.items ≡ pairs word.now (length word.now / 2)) }
 {
     let mut octets = Vec::new(heap);
-    for i in 0..word.len() / 2 {
-        octets.push(hex_value(word[2 * i]) * 16 + hex_value(word[2 * i + 1]))?;
+    let (pairs, _) = word.as_chunks::<2>();
+    for [high, low] in pairs {
+        octets.push(hex_value(*high) * 16 + hex_value(*low))?;
     }
     Ok(octets)
 }
@@ -97,10 +95,10 @@ pub fn octets(heap: Global, word: &[u8]) -> Result<Option<Vec<u8>>, AllocError>
     ensures value { IfOk result (λ o. option_map vec_items o ≡ octets_in word.now) }
 {
     let n = word.len();
-    if n == 1 && word[0] == 45 {
+    if word == b"-".as_slice() {
         return Ok(Some(Vec::new(heap)));
     }
-    if n == 0 || n % 2 != 0 || Class::Hex.run_of(word) != n {
+    if n == 0 || n % 2 != 0 || run_of(word, |b| b.is_ascii_hexdigit()) != n {
         return Ok(None);
     }
     Ok(Some(hex_pairs(heap, word)?))

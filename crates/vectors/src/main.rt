@@ -5,40 +5,25 @@
 use aes::Aes;
 use anyhow::anyhow;
 use cipher::{BlockCipher, WORKSPACE};
-use sessions::Session;
+use recorded::{Problem, Stop, Tally};
 use speck::Speck;
 use std::fs;
 use text::split_word;
 
 mod sessions;
 
-/// How many figures were compared, and how many differ.
-#[derive(Clone, Copy)]
-pub(crate) struct Tally {
-    compared: u32,
-    wrong: u32,
-}
-
 fn main(rt: HostRuntime) -> anyhow::Result<()> {
     run(&rt)
 }
 
 fn run(rt: &HostRuntime) -> anyhow::Result<()> {
-    let mut tally = Tally {
-        compared: 0,
-        wrong: 0,
-    };
+    let mut tally = Tally::new();
     let figures = fs::read_to_string(rt, "figures.txt")?;
     for line in figures.lines() {
         let (sort, rest) = split_word(line.as_bytes());
         figure(rt, sort, rest, &mut tally)?;
     }
-    let lines = fs::read_to_string(rt, "sessions.txt")?;
-    let mut session = Session::new(rt);
-    for line in lines.lines() {
-        let (name, rest) = split_word(line.as_bytes());
-        session.line(rt, name, rest, &mut tally)?;
-    }
+    sessions::compare_sessions(rt, &mut tally)?;
     let Tally { compared, wrong } = tally;
     println!(rt; "{compared} compared, {wrong} differ")?;
     if wrong != 0 {
@@ -49,49 +34,59 @@ fn run(rt: &HostRuntime) -> anyhow::Result<()> {
 
 /// Compares one published figure.
 fn figure(rt: &HostRuntime, sort: &[u8], words: &[u8], tally: &mut Tally) -> anyhow::Result<()> {
-    if sort == b"aes".as_slice() {
-        print!(rt; "AES-128 block")?;
-        report(rt, block_agrees::<Aes>(rt, words)?, tally)?;
-    } else if sort == b"aes-schedule".as_slice() {
-        print!(rt; "AES-128 last round key")?;
-        report(rt, last_round_key_agrees(rt, words)?, tally)?;
-    } else if sort == b"speck".as_slice() {
-        print!(rt; "Speck128/128 block")?;
-        report(rt, block_agrees::<Speck>(rt, words)?, tally)?;
-    } else if sort == b"aes-xcbc".as_slice() {
-        print!(rt; "AES-XCBC result and tag")?;
-        report(rt, result_agrees(rt, words)?, tally)?;
+    match sort {
+        b"aes" => {
+            print!(rt; "AES-128 block")?;
+            report(rt, block_agrees::<Aes>(rt, words)?, tally)
+        }
+        b"aes-schedule" => {
+            print!(rt; "AES-128 last round key")?;
+            report(rt, last_round_key_agrees(rt, words)?, tally)
+        }
+        b"speck" => {
+            print!(rt; "Speck128/128 block")?;
+            report(rt, block_agrees::<Speck>(rt, words)?, tally)
+        }
+        b"aes-xcbc" => {
+            print!(rt; "AES-XCBC result and tag")?;
+            report(rt, result_agrees(rt, words)?, tally)
+        }
+        _ => Ok(()),
     }
-    Ok(())
 }
 
-/// Ends the line of a figure.
+/// Ends the line of what was compared.
 pub(crate) fn report(rt: &HostRuntime, agrees: bool, tally: &mut Tally) -> anyhow::Result<()> {
-    tally.compared = tally.compared.saturating_add(1);
-    if agrees {
-        println!(rt; ": agrees")?;
-    } else {
-        tally.wrong = tally.wrong.saturating_add(1);
-        println!(rt; ": DIFFERS")?;
-    }
+    let word = tally.count(agrees);
+    println!(rt; ": {word}")?;
     Ok(())
 }
 
-/// The octets of a word.
-pub(crate) fn octets(rt: &HostRuntime, word: &[u8]) -> anyhow::Result<Vec<u8>> {
-    match text::octets(rt.alloc(), word)? {
-        Some(octets) => Ok(octets),
-        None => Err(anyhow!("\"a word of a figure is not hexadecimal\"")),
+/// Why something was not read, in words for people.
+pub(crate) fn told(stop: Stop) -> anyhow::Error {
+    match stop {
+        Stop::Memory(error) => anyhow::Error::from(error),
+        Stop::Unreadable(problem) => unreadable(problem),
+    }
+}
+
+/// What is wrong with a file, in words for people.
+// `replay` words three of them otherwise, so that one Display in `recorded` cannot say them for both.
+pub(crate) fn unreadable(problem: Problem) -> anyhow::Error {
+    match problem {
+        Problem::Octets => anyhow!("\"a word of a figure is not hexadecimal\""),
+        Problem::Length => anyhow!("\"a word of a figure has another length\""),
+        Problem::Number => anyhow!("\"a private number is not a number\""),
+        Problem::Cipher => anyhow!("\"the cipher of a session is another\""),
+        Problem::Name => anyhow!("\"a line of a session has another name\""),
+        Problem::Short => anyhow!("\"a message of a session is too short\""),
+        Problem::Payload => anyhow!("\"a packet of a session has no payload\""),
     }
 }
 
 /// The octets of a word that has N of them.
-pub(crate) fn fixed<const N: usize>(rt: &HostRuntime, word: &[u8]) -> anyhow::Result<[u8; N]> {
-    let octets = octets(rt, word)?;
-    match <[u8; N]>::try_from(octets.as_slice()) {
-        Ok(octets) => Ok(octets),
-        Err(_) => Err(anyhow!("\"a word of a figure has another length\"")),
-    }
+fn fixed<const N: usize>(rt: &HostRuntime, word: &[u8]) -> anyhow::Result<[u8; N]> {
+    recorded::fixed(rt.alloc(), word).map_err(told)
 }
 
 /// Key, plaintext and ciphertext of a cipher.
@@ -99,9 +94,9 @@ fn block_agrees<C: BlockCipher>(rt: &HostRuntime, words: &[u8]) -> anyhow::Resul
     let (key, rest) = split_word(words);
     let (plaintext, rest) = split_word(rest);
     let (ciphertext, _) = split_word(rest);
-    let key = fixed::<16>(rt, key)?;
-    let plaintext = fixed::<16>(rt, plaintext)?;
-    let ciphertext = fixed::<16>(rt, ciphertext)?;
+    let key = fixed(rt, key)?;
+    let plaintext = fixed(rt, plaintext)?;
+    let ciphertext = fixed(rt, ciphertext)?;
     Ok(cipher::block_under::<C>(&key, &plaintext, &mut [0; WORKSPACE]) == ciphertext)
 }
 
@@ -109,7 +104,7 @@ fn block_agrees<C: BlockCipher>(rt: &HostRuntime, words: &[u8]) -> anyhow::Resul
 fn last_round_key_agrees(rt: &HostRuntime, words: &[u8]) -> anyhow::Result<bool> {
     let (key, rest) = split_word(words);
     let (last, _) = split_word(rest);
-    let key = fixed::<16>(rt, key)?;
+    let key = fixed(rt, key)?;
     let last = fixed::<16>(rt, last)?;
     let mut workspace = [0; WORKSPACE];
     Aes::prepare(&key, &mut workspace);
@@ -120,10 +115,10 @@ fn last_round_key_agrees(rt: &HostRuntime, words: &[u8]) -> anyhow::Result<bool>
 fn result_agrees(rt: &HostRuntime, words: &[u8]) -> anyhow::Result<bool> {
     let (key, rest) = split_word(words);
     let (message, rest) = split_word(rest);
-    let (result, _) = split_word(rest);
-    let key = fixed::<16>(rt, key)?;
-    let message = octets(rt, message)?;
-    let expected = fixed::<16>(rt, result)?;
+    let (expected, _) = split_word(rest);
+    let key = fixed(rt, key)?;
+    let message = recorded::octets(rt.alloc(), message).map_err(told)?;
+    let expected = fixed::<16>(rt, expected)?;
     let mut workspace = [0; WORKSPACE];
     let result = keyed::result::<Aes>(&key, &message, &mut workspace);
     let tag = keyed::tag::<Aes>(&key, &message, &mut workspace);

@@ -7,9 +7,10 @@ pub returns : goal.returns
 returns c =
     let h = length c.args.head.now in
     let m = length c.args.middle.now in
-    let n = c.args.n in
+    let l = length c.args.last.now in
     record {
-      output = laid c.args.head.now c.args.middle.now c.args.last.now c.args.output.now h (h - 0) (h + m - h) (h + m) (n - (h + m)) n
+      value = omega arith;
+      output = laid c.args.head.now c.args.middle.now c.args.last.now c.args.output.now h (h - 0) (h + m - h) (h + m) (h + m + l - (h + m)) (h + m + l)
           c.copy_from_slice.ensures.after c.copy_from_slice-2.ensures.after c.copy_from_slice-3.ensures.after
           refl (omega arith) (omega arith) (omega arith) (omega arith);
     }

@@ -1,11 +1,8 @@
 -- The parts are the string of the first counter.
-use Rattle.std.proofs.Common.{◌∙◌, arith, length-append}
+use Rattle.std.proofs.Common.{◌∙◌}
 use Rattle.std.proofs.lemmas.List.{append_assoc}
 use Rattle.keyed.specs.Derivation.{counter_string}
 use Rattle.keyed.proofs.derivation.first_block.Goals as goal
-
-pub result_of-requires : goal.result_of-requires
-result_of-requires g c = (simp length-append (omega arith), omega arith)
 
 pub returns : goal.returns
 unfolding counter_string

@@ -1,7 +1,7 @@
 -- What was found, or else what the rest of the rows decides, is what all rows decide.
 use Rattle.std.proofs.Common.{◌≡◌, Some, None, Option, refl, rules}
 use Rattle.std.specs.Option.{option_or}
-use Rattle.lookup.specs.declared.Reply.{Reply}
+use Rattle.lookup.specs.Replies.{Reply}
 use Rattle.lookup.proofs.Rows.{deciding_more, deciding_none}
 use Rattle.lookup.proofs.chip.deciding_reply.Goals as goal
 

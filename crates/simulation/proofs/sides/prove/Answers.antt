@@ -4,17 +4,13 @@ use Rattle.std.proofs.lemmas.List.{with_items_is}
 use Rattle.cipher.specs.Cipher.{E}
 use Rattle.channel.specs.Handshake.{proven, prove_output}
 use Rattle.simulation.proofs.Calls.{at_same, Read, prove_does}
-use Rattle.simulation.proofs.Telling.{prove_tells}
 use Rattle.simulation.proofs.sides.prove.Goals as goal
 
-pub returns-in-Ok : goal.returns-in-Ok
-returns-in-Ok g c =
+pub returns-in-Ok-clause-does : goal.returns-in-Ok-clause-does
+returns-in-Ok-clause-does g c =
     let h = c.in-Ok.ensures.value ∙ at_same (proven g.C.BlockCipher.protocol (E g.C.BlockCipher.schedule g.C.BlockCipher.worked) g.K.KeyLookup.own g.K.KeyLookup.replies c.in-Invited.invited) c.as_slice.ensures.value c.as_mut_slice-space.ensures.value c.as_mut_slice-out.ensures.value in
-    let o = c.truncate.ensures.items ∙ ap (take 15) (with_items_is c.args.output c.prove.new.output (omega arith)
+    let o = c.truncate.ensures.items ∙ ap (take 15) (with_items_is c.args.given.output c.prove.new.output (omega arith)
     ∙ c.in-Ok.ensures.output ∙ at_same (prove_output g.C.BlockCipher.protocol (E g.C.BlockCipher.schedule g.C.BlockCipher.worked) g.K.KeyLookup.own g.K.KeyLookup.replies c.in-Invited.invited) c.as_slice.ensures.value c.as_mut_slice-space.ensures.value c.as_mut_slice-out.ensures.value) in
-    record {
-      does = prove_does g.C.BlockCipher.protocol (E g.C.BlockCipher.schedule g.C.BlockCipher.worked) g.K.KeyLookup.own g.K.KeyLookup.replies (λ k x. g.met.C.BlockCipher.blocks (g.C.BlockCipher.schedule k) x) c.args.side c.in-Invited.invited (vec_items c.args.message) (vec_items c.args.workspace) (vec_items c.args.output)
-          c.as_slice-in-Ok.result.now c.field.result c.in-Ok.proved c.reads.result _ c.in-Invited.is h (c.as_slice-in-Ok.ensures.value ∙ o)
-          c.field.ensures.value (subst (Read c.reads.result) c.as_slice-in-Ok-2.ensures.value c.reads.ensures.value);
-      outcome = prove_tells g.C.BlockCipher.protocol (E g.C.BlockCipher.schedule g.C.BlockCipher.worked) g.K.KeyLookup.own g.K.KeyLookup.replies c.args.side c.in-Invited.invited (vec_items c.args.message) (vec_items c.args.workspace) (vec_items c.args.output) (vec_items c.truncate.new.self) c.in-Ok.proved c.in-Invited.is h o;
-    }
+    prove_does g.C.BlockCipher.protocol (E g.C.BlockCipher.schedule g.C.BlockCipher.worked) g.K.KeyLookup.own g.K.KeyLookup.replies (λ k x. g.met.C.BlockCipher.blocks (g.C.BlockCipher.schedule k) x) c.args.side c.in-Invited.invited (vec_items c.args.given.input) (vec_items c.args.given.workspace) (vec_items c.args.given.output)
+    c.as_slice-in-Ok.result.now c.field.result c.in-Ok.proved c.reads.result _ c.in-Invited.is h (c.as_slice-in-Ok.ensures.value ∙ o)
+    c.field.ensures.value (subst (Read c.reads.result) c.as_slice-in-Ok-2.ensures.value c.reads.ensures.value)

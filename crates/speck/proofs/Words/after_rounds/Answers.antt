@@ -1,5 +1,5 @@
 -- Each turn makes one round, with the round key that stands at its number.
-use Rattle.std.proofs.Common.{◌≡◌, refl, ap, ◌∙◌, arith}
+use Rattle.std.proofs.Common.{refl}
 use Rattle.speck.specs.Speck.{word, rounds}
 use Rattle.speck.proofs.Rounds.{rounds_more}
 use Rattle.speck.proofs.Words.after_rounds.Goals as goal
@@ -12,8 +12,3 @@ pub loop-i-preserved : goal.loop-i-preserved
 loop-i-preserved c =
     rounds_more (λ j. word j c.args.keys.now) c.loop-i.i c.read_word.result c.args.self c.loop-i.state c.after_round-state.result
     c.loop-i.invariant c.read_word.ensures.value c.after_round-state.ensures.value
-
-pub returns : goal.returns
-returns c =
-    let all : c.loop-i.i ≡ 32 = omega arith in
-    record { value = c.loop-i.invariant ∙ ap (λ i. rounds (λ j. word j c.args.keys.now) i c.args.self) all }

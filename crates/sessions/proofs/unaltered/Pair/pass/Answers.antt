@@ -3,11 +3,8 @@ use Rattle.std.proofs.Common.{◌≡◌, ℕ, List, [], length, replicate, sym, 
 use Rattle.cipher.specs.Cipher.{E}
 use Rattle.runs.specs.Unaltered.{Blocks}
 use Rattle.std.proofs.lemmas.List.{get_or-replicate, length-replicate}
-use Rattle.sessions.proofs.Pairs.{going_start, going_next, going_stops, going_done, honest_all, small_replicate}
+use Rattle.sessions.proofs.Pairs.{going_next, going_stops, going_done, honest_all, small_replicate}
 use Rattle.sessions.proofs.unaltered.Pair.pass.Goals as goal
-
-pub loop-i-init : goal.loop-i-init
-loop-i-init g c = going_start _ _ _ _
 
 pub loop-i-preserved : goal.loop-i-preserved
 loop-i-preserved g c =
@@ -37,16 +34,12 @@ returns-then-not-pass_next g c =
       honest = λ n h s. honest_all pid e whole c.args.self.now c.pass_next.new.self ps c.args.count i long t n h (small_replicate c.args.count c.args.payload.now s);
     }
 
-pub returns : goal.returns
-returns g c =
+pub returns-clause-honest : goal.returns-clause-honest
+returns-clause-honest g c =
     let pid : ℕ = g.C.BlockCipher.protocol in
     let e : List ℕ → List ℕ → List ℕ = E g.C.BlockCipher.schedule g.C.BlockCipher.worked in
     let ps : List (List ℕ) = replicate c.args.count c.args.payload.now in
     let whole : Blocks e = λ k x. g.met.C.BlockCipher.blocks (g.C.BlockCipher.schedule k) x in
     let long : length ps ≡ c.args.count = length-replicate c.args.count c.args.payload.now in
     let t = going_done pid e c.args.self.now c.loop-i.self ps c.loop-i.i c.loop-i.invariant c.args.count long (omega arith) (omega arith) in
-    record {
-      value = t.0;
-      end = t.1;
-      honest = λ n h s. honest_all pid e whole c.args.self.now c.loop-i.self ps c.args.count c.args.count long t n h (small_replicate c.args.count c.args.payload.now s);
-    }
+    λ n h s. honest_all pid e whole c.args.self.now c.loop-i.self ps c.args.count c.args.count long t n h (small_replicate c.args.count c.args.payload.now s)

@@ -4,11 +4,8 @@ use Rattle.cipher.specs.Cipher.{E}
 use Rattle.sessions.specs.Sessions.{held}
 use Rattle.runs.specs.Unaltered.{Blocks}
 use Rattle.std.proofs.lemmas.List.{get_or-map, length-map}
-use Rattle.sessions.proofs.Pairs.{going_start, going_next, going_stops, going_done, honest_all, nothing}
+use Rattle.sessions.proofs.Pairs.{going_next, going_stops, going_done, honest_all, nothing}
 use Rattle.sessions.proofs.unaltered.Pair.pass_all.Goals as goal
-
-pub loop-i-init : goal.loop-i-init
-loop-i-init g c = going_start _ _ _ _
 
 pub loop-i-preserved : goal.loop-i-preserved
 loop-i-preserved g c =
@@ -38,16 +35,12 @@ returns-then-not-pass_next g c =
       honest = λ n h s. honest_all pid e whole c.args.self.now c.pass_next.new.self ps (length c.args.payloads.now) i long t n h (s);
     }
 
-pub returns : goal.returns
-returns g c =
+pub returns-clause-honest : goal.returns-clause-honest
+returns-clause-honest g c =
     let pid : ℕ = g.C.BlockCipher.protocol in
     let e : List ℕ → List ℕ → List ℕ = E g.C.BlockCipher.schedule g.C.BlockCipher.worked in
     let ps : List (List ℕ) = held c.args.payloads.now in
     let whole : Blocks e = λ k x. g.met.C.BlockCipher.blocks (g.C.BlockCipher.schedule k) x in
     let long : length ps ≡ length c.args.payloads.now = length-map c.args.payloads.now (λ (v : Bor (List ℕ)). v.now) in
     let t = going_done pid e c.args.self.now c.loop-i.self ps c.loop-i.i c.loop-i.invariant (length c.args.payloads.now) long (omega arith) (omega arith) in
-    record {
-      value = t.0;
-      end = t.1;
-      honest = λ n h s. honest_all pid e whole c.args.self.now c.loop-i.self ps (length c.args.payloads.now) (length c.args.payloads.now) long t n h (s);
-    }
+    λ n h s. honest_all pid e whole c.args.self.now c.loop-i.self ps (length c.args.payloads.now) (length c.args.payloads.now) long t n h (s)

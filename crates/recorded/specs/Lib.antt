@@ -1,0 +1,5 @@
+pub mod Words
+pub mod Keys
+pub mod Lines
+pub mod Sessions
+pub mod Tallies

@@ -1,0 +1,19 @@
+-- An arm knows the length and each octet of its word.
+use Rattle.std.proofs.Common.{codes, arith, rules}
+use Rattle.std.proofs.lemmas.Slice.Eq.{text_from_reads}
+use Rattle.script.proofs.parts.last_source.Goals as goal
+
+pub returns-in_err-last_octets-in-octets : goal.returns-in_err-last_octets-in-octets
+returns-in_err-last_octets-in-octets c = search (rules, text_from_reads c.split_word.result.0.now (codes "octets") (omega arith) (search rules))
+
+pub returns-in_err-last_number-in-message : goal.returns-in_err-last_number-in-message
+returns-in_err-last_number-in-message c = search (rules, text_from_reads c.split_word.result.0.now (codes "message") (omega arith) (search rules))
+
+pub returns-in_ok-end-in-last : goal.returns-in_ok-end-in-last
+returns-in_ok-end-in-last c = search (rules, text_from_reads c.split_word.result.0.now (codes "last") (omega arith) (search rules))
+
+pub returns-in_ok-last_octets-in-octets : goal.returns-in_ok-last_octets-in-octets
+returns-in_ok-last_octets-in-octets c = search (rules, text_from_reads c.split_word.result.0.now (codes "octets") (omega arith) (search rules))
+
+pub returns-in_ok-last_number-in-message : goal.returns-in_ok-last_number-in-message
+returns-in_ok-last_number-in-message c = search (rules, text_from_reads c.split_word.result.0.now (codes "message") (omega arith) (search rules))
