@@ -38,6 +38,7 @@ fn run(rt: &HostRuntime) -> anyhow::Result<()> {
 }
 
 /// The whole file that is named as the argument, else all of standard input.
+// `simulate` reads alike: a crate for a few lines of input is no plainer.
 fn input(rt: &HostRuntime) -> anyhow::Result<Vec<u8>> {
     let mut args = env::args(rt)?;
     let _program = args.next();

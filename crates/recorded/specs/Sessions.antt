@@ -92,10 +92,10 @@ packets_after ps (line.Secret z) = Ok ps
 packets_after ps (line.Derived d o) = Ok ps
 packets_after ps (line.Message m o) = Ok ps
 
--- a line that is refused changes nothing; nothing is said where there was no memory
+-- a line that is refused changes nothing; where memory was wanting, the packets too are those that stood there, and only the room for them may differ
 abbrev pub IsKept : {A : Type 0} → Result A (ParseError Problem) → Session → Session → Type 0
 IsKept (Err (Unreadable p)) a b = b ≡ a
-IsKept (Err (Memory e)) a b = Unit {0}
+IsKept (Err (Memory e)) a b = (b ≡ record a { packets = b.packets }) × (vec_items b.packets ≡ vec_items a.packets)
 IsKept (Ok u) a b = Unit {0}
 
 -- the labels, out of the two messages that carry them

@@ -1,5 +1,5 @@
 //! A session, as its lines give it.
-ghost use Rattle.std.specs.Prelude.{◌≡◌, [], ◌∷◌, ◌++◌, ◌↔◌, IsTrue, OnOk, vec_items};
+ghost use Rattle.std.specs.Prelude.{◌≡◌, [], ◌∷◌, ◌++◌, ◌↔◌, IsTrue, OnOk, OnErr, vec_items};
 ghost use Rattle.text.specs.Reading.{Reads};
 ghost use Rattle.recorded.specs.Sessions.{IsFresh, IsKept, begun, with_derived, with_message, taken, packets_after, labels_of, SecretsAgree, same_keys};
 ghost use Rattle.cipher.specs.Cipher.{E};
@@ -138,7 +138,8 @@ impl Session {
 
     fn begin_packet(&mut self, number: u32, payload: Vec<u8>) -> Result<(), AllocError>
         ensures value { OnOk result (vec_items self.new.packets ≡ vec_items self.old.packets ++ begun number payload ∷ []) }
-        ensures rest { OnOk result (self.new ≡ record self.old { packets = self.new.packets }) }
+        ensures kept { OnErr result (vec_items self.new.packets ≡ vec_items self.old.packets) }
+        ensures rest { self.new ≡ record self.old { packets = self.new.packets } }
     {
         let packet = Packet {
             number,

@@ -29,6 +29,7 @@ pub enum Problem {
 /// Why something was not read.
 pub type Stop = ParseError<Problem>;
 
+// `capture` and `script` have the like; one for every problem, in `text`, conflicts with the one from `AllocError` there.
 impl From<Problem> for ParseError<Problem> {
     ghost from_gives = { λ p r. r ≡ Unreadable p };
 
