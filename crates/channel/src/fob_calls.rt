@@ -122,7 +122,7 @@ impl<C: BlockCipher, K: KeyLookup> Invited<C, K> {
         let Ok(secret) = self.key.reply(&cut(message, 3)) else {
             return Err(Fault::handshake(HandshakeCause::Label, 3));
         };
-        Ok(self.proof(message, &secret, workspace))
+        Ok(self.proof(message, secret.octets(), workspace))
     }
 
     /// The labels of both ends.

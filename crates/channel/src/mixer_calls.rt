@@ -106,7 +106,7 @@ impl<C: BlockCipher> Mixer<C> {
             fob: cut(message, 28),
             mixer: nonce.octets,
         };
-        Ok(keyed::derive::<C>(&self.identities, &nonces, &secret, workspace))
+        Ok(keyed::derive::<C>(&self.identities, &nonces, secret.octets(), workspace))
     }
 
     /// The move, which cannot be refused.

@@ -4,7 +4,7 @@ ghost use Rattle.fault.specs.Faults.{host_fault};
 ghost use Rattle.fault.specs.declared.HostCause.TheVariants.{OwnKey};
 ghost use Rattle.lookup.specs.Bench.{power_of, is_private, padded, label_of, value_of, reply_to};
 
-use crate::{Invalid, KeyLookup, Reply};
+use crate::{Invalid, KeyLookup, Reply, Secret};
 use fault::{Fault, HostCause};
 
 const P: u32 = 2_147_483_647;
@@ -108,7 +108,7 @@ impl KeyLookup for BenchKey {
         };
         match power(value, self.d) {
             1 => Err(Invalid::Label),
-            z => Ok(pad(z)),
+            z => Ok(Secret::new(pad(z))),
         }
     }
 }

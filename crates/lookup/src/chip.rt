@@ -4,7 +4,7 @@ ghost use Rattle.fault.specs.Faults.{host_fault};
 ghost use Rattle.fault.specs.declared.HostCause.TheVariants.{OwnKey};
 ghost use Rattle.lookup.specs.Chip.{is_length, rows_of, row_reply, matching_reply, deciding_reply, reply_in};
 
-use crate::{Invalid, KeyLookup, Reply};
+use crate::{Invalid, KeyLookup, Reply, Secret};
 use fault::{Fault, HostCause};
 
 const ROW: usize = 50;
@@ -42,7 +42,8 @@ fn row_reply(row: &[u8]) -> Reply
     if row[25] != 1 {
         return Err(Invalid::Label);
     }
-    Ok(<[u8; 24]>::try_from(&row[26..50]).unwrap())
+    let octets = <[u8; 24]>::try_from(&row[26..50]).unwrap();
+    Ok(Secret::new(octets))
 }
 
 // The reply of a row, if it has the peer's label.

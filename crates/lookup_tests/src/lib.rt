@@ -17,7 +17,7 @@ use lookup::{KeyLookup, Reply};
 pub fn secret<K: KeyLookup>(key: &K, peer: &[u8; 25]) -> Option<[u8; 24]>
     ensures value { result ≡ secret_in (K.KeyLookup.replies key.now peer.now) }
 {
-    key.reply(peer).ok()
+    Some(*key.reply(peer).ok()?.octets())
 }
 
 /// The reply of a record's octets to a peer.
@@ -40,7 +40,7 @@ pub fn meet(d: u32, e: u32) -> Result<Reply, Fault>
 #[cfg(test)]
 mod tests {
     use super::*;
-    use lookup::Invalid;
+    use lookup::{Invalid, Secret};
     use std::test::Fail;
 
     // Whether a refusal has the number 5, the host's layer and the place 0.
@@ -119,7 +119,7 @@ mod tests {
         assert!(rt; ask(&two_rows((0, 7), (1, 8)), &[3; 25])? == Err(Invalid::Label));
         assert!(rt; ask(&two_rows((2, 7), (1, 8)), &[3; 25])? == Err(Invalid::Label));
         assert!(rt; ask(&two_rows((255, 7), (1, 8)), &[3; 25])? == Err(Invalid::Label));
-        assert!(rt; ask(&two_rows((1, 7), (0, 8)), &[3; 25])? == Ok([7; 24]));
+        assert!(rt; ask(&two_rows((1, 7), (0, 8)), &[3; 25])? == Ok(Secret::new([7; 24])));
         Ok(())
     }
 
@@ -144,9 +144,11 @@ mod tests {
 
     #[test]
     fn shared_secrets(rt: HostRuntime) -> Result<(), Fail> {
-        assert!(rt; meet(2, 3)? == Ok(padded([0, 1, 203, 145])));
-        assert!(rt; meet(3, 2)? == Ok(padded([0, 1, 203, 145])));
-        assert!(rt; meet(1_234_567_890, 2_000_000_011)? == Ok(padded([24, 242, 115, 174])));
+        assert!(rt; meet(2, 3)? == Ok(Secret::new(padded([0, 1, 203, 145]))));
+        assert!(rt; meet(3, 2)? == Ok(Secret::new(padded([0, 1, 203, 145]))));
+        assert!(rt;
+            meet(1_234_567_890, 2_000_000_011)? == Ok(Secret::new(padded([24, 242, 115, 174])))
+        );
         Ok(())
     }
 

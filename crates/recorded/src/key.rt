@@ -3,10 +3,10 @@ ghost use Rattle.std.specs.Prelude.{◌≡◌, ◌↔◌, IsTrue, Ok};
 ghost use Rattle.recorded.specs.Keys.{Makes, Gives};
 
 use fault::Fault;
-use lookup::KeyLookup;
 use lookup::bench::BenchKey;
 use lookup::chip::ChipRecord;
 use lookup::either::EitherKey;
+use lookup::{KeyLookup, Secret};
 
 /// What an own key is made of.
 #[derive(Drop)]
@@ -43,5 +43,5 @@ impl OwnKey {
 fn looks_up<K: KeyLookup>(key: &K, own: &[u8; 25], peer: &[u8; 25], secret: &[u8; 24]) -> bool
     ensures value { IsTrue result ↔ (K.KeyLookup.own key.now ≡ own.now) × (K.KeyLookup.replies key.now peer.now ≡ Ok secret.now) }
 {
-    key.label() == *own && key.reply(peer) == Ok(*secret)
+    key.label() == *own && key.reply(peer) == Ok(Secret::new(*secret))
 }

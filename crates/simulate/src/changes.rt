@@ -124,8 +124,8 @@ pub(crate) fn buffer(heap: Global, size: u32) -> Result<Vec<u8>, Trouble> {
 /// So many octets 0, 1, 2 and so on, and after 255 from 0 again.
 pub(crate) fn counted(heap: Global, size: u32) -> Result<Vec<u8>, Trouble> {
     let mut octets = buffer(heap, size)?;
-    for (octet, count) in octets.iter_mut().zip((0..=u8::MAX).cycle()) {
-        *octet = count;
+    for (place, octet) in octets.iter_mut().enumerate() {
+        *octet = (place % 256) as u8;
     }
     Ok(octets)
 }
