@@ -66,11 +66,13 @@ abbrev pub key_view : OwnKey → KeyView
 key_view (Bench d) = bench d
 key_view (Chip o) = chip (vec_items o)
 
--- chip and a record, or any other word and a private number
+-- of the sort chip a record, of any other a private number
+abbrev pub key_in : List ℕ → List ℕ → Result KeyView Problem
+key_in sort w = cond (is_word "chip" sort) (into chip (octets_of w)) (into bench (decimal_of w))
+
+-- a sort of key, and the key
 abbrev pub key_of : List ℕ → Result KeyView Problem
-key_of s =
-    cond (is_word "chip" (word_of s)) (into chip (octets_of (word_of (rest_of s))))
-    (into bench (decimal_of (word_of (rest_of s))))
+key_of s = key_in (word_of s) (word_of (rest_of s))
 
 -- what a line holds, with octets as lists
 pub data LineView : Type 0 where
@@ -99,9 +101,13 @@ line_view (Payload n o) = payload n (vec_items o)
 line_view (Packet m) = packet (vec_items m)
 line_view (Counter c) = counter c
 
--- whose own key, and the key: fob, or any other word for the mixer
+-- an end's own key: of the fob, or by any other word of the mixer
+abbrev pub of_end : List ℕ → Result KeyView Problem → Result LineView Problem
+of_end end k = into (cond (is_word "fob" end) fob_key mixer_key) k
+
+-- whose own key, and the key
 abbrev pub end_key_of : List ℕ → Result LineView Problem
-end_key_of s = into (cond (is_word "fob" (word_of s)) fob_key mixer_key) (key_of (rest_of s))
+end_key_of s = of_end (word_of s) (key_of (rest_of s))
 
 -- what follows the name of a line
 abbrev pub form_of : Name → List ℕ → Result LineView Problem

@@ -2,7 +2,7 @@
 ghost use Rattle.std.specs.Prelude.{◌≡◌};
 ghost use Rattle.std.specs.Option.{option_map};
 ghost use Rattle.text.specs.Reading.{Reads};
-ghost use Rattle.recorded.specs.Lines.{derived_of, handshake_of, single_name_of, name_of, key_view, key_of, end_key_of, line_view, form_of, line_of};
+ghost use Rattle.recorded.specs.Lines.{derived_of, handshake_of, single_name_of, name_of, key_view, key_in, of_end, line_view, form_of, line_of};
 
 use crate::key::OwnKey;
 use crate::words::{Problem, Stop, Suite, decimal, fixed, octets};
@@ -129,24 +129,21 @@ impl TryFrom<&[u8]> for Name {
     }
 }
 
-/// An own key: `chip` and a record, or a private number.
-fn own_key(heap: Global, text: &[u8]) -> Result<OwnKey, Stop>
-    ensures value { Reads key_view result (key_of text.now) }
+/// An own key: of the sort `chip` a record, of any other a private number.
+fn own_key(heap: Global, sort: &[u8], word: &[u8]) -> Result<OwnKey, Stop>
+    ensures value { Reads key_view result (key_in sort.now word.now) }
 {
-    let (sort, rest) = split_word(text);
-    let (word, _) = split_word(rest);
     match sort {
         b"chip" => Ok(OwnKey::Chip(octets(heap, word)?)),
         _ => Ok(OwnKey::Bench(decimal(word)?)),
     }
 }
 
-/// Whose own key, and the key: `fob`, or any other word for the mixer.
-fn end_key(heap: Global, text: &[u8]) -> Result<Line, Stop>
-    ensures value { Reads line_view result (end_key_of text.now) }
+/// An end's own key: of `fob`, or by any other word of the mixer.
+fn end_key(heap: Global, end: &[u8], sort: &[u8], word: &[u8]) -> Result<Line, Stop>
+    ensures value { Reads line_view result (of_end end.now (key_in sort.now word.now)) }
 {
-    let (end, rest) = split_word(text);
-    let key = own_key(heap, rest)?;
+    let key = own_key(heap, sort, word)?;
     match end {
         b"fob" => Ok(Line::FobKey(key)),
         _ => Ok(Line::MixerKey(key)),
@@ -158,7 +155,7 @@ fn form(heap: Global, name: Name, text: &[u8]) -> Result<Line, Stop>
     ensures value { Reads line_view result (form_of name text.now) }
 {
     let (first, rest) = split_word(text);
-    let (second, _) = split_word(rest);
+    let (second, rest) = split_word(rest);
     match name {
         Name::Cipher => Ok(Line::Cipher(Suite::try_from(first)?)),
         Name::Identities => {
@@ -171,7 +168,10 @@ fn form(heap: Global, name: Name, text: &[u8]) -> Result<Line, Stop>
             let mixer = fixed(heap, second)?;
             Ok(Line::Nonces(Nonces { fob, mixer }))
         }
-        Name::Key => end_key(heap, text),
+        Name::Key => {
+            let (word, _) = split_word(rest);
+            end_key(heap, first, second, word)
+        }
         Name::Secret => Ok(Line::Secret(fixed(heap, first)?)),
         Name::Derived(which) => Ok(Line::Derived(which, fixed(heap, first)?)),
         Name::Message(which) => Ok(Line::Message(which, octets(heap, first)?)),

@@ -70,25 +70,27 @@ fn compare(
 
 /// What a line holds. Octets may follow a counter's sixteen, and of a line of another name the words are looked at first.
 fn read(rt: &HostRuntime, session: &Session, line: &[u8]) -> Result<Option<Line>, Stop> {
+    let problem = match parse_line(rt.alloc(), line) {
+        Err(Stop::Unreadable(problem)) => problem,
+        read => return read,
+    };
+    // Only here are words parted that `parse_line` has parted too: they may be long.
     let (name, rest) = split_word(line);
     let (word, _) = split_word(rest);
-    match parse_line(rt.alloc(), line) {
-        Err(Stop::Unreadable(Problem::Name)) if name.len() == 2 => {
+    match problem {
+        Problem::Name if name.len() == 2 => {
             let _key: [u8; 16] = fixed(rt.alloc(), word)?;
             Err(Problem::Name.into())
         }
-        Err(Stop::Unreadable(Problem::Name)) => {
+        Problem::Name => {
             let _octets = octets(rt.alloc(), word)?;
             Err(of_a_packet(session, Problem::Name).into())
         }
-        Err(Stop::Unreadable(Problem::Length)) if name == b"counter".as_slice() => {
-            let octets = octets(rt.alloc(), word)?;
-            match octets.first_chunk::<16>() {
-                Some(counter) => Ok(Some(Line::Counter(*counter))),
-                None => Err(of_a_packet(session, Problem::Short).into()),
-            }
+        Problem::Length if name == b"counter".as_slice() => {
+            let sixteen = word.get(..32).ok_or(of_a_packet(session, Problem::Short))?;
+            Ok(Some(Line::Counter(fixed(rt.alloc(), sixteen)?)))
         }
-        read => read,
+        problem => Err(problem.into()),
     }
 }
 

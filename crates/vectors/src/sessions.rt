@@ -55,6 +55,7 @@ impl Reading {
     fn line(&mut self, rt: &HostRuntime, line: &[u8], tally: &mut Tally) -> anyhow::Result<()> {
         let (name, rest) = split_word(line);
         match name {
+            [] | [b'#', ..] => {}
             b"cipher" => self.begin(rest),
             b"payload" => self.payload = payload_in(rt, rest)?,
             b"counter" if self.counter.is_none() => return self.end_packet(rt, false, tally),
