@@ -68,30 +68,53 @@ fn compare(
     comparison.run()
 }
 
-/// What a line holds. Octets may follow a counter's sixteen, and of a line of another name the words are looked at first.
+/// What a line holds. Of a line of another name the words are looked at first.
 fn read(rt: &HostRuntime, session: &Session, line: &[u8]) -> Result<Option<Line>, Stop> {
+    if let Some(rest) = after_counter(line) {
+        return counter(rt, session, rest);
+    }
     let problem = match parse_line(rt.alloc(), line) {
         Err(Stop::Unreadable(problem)) => problem,
         read => return read,
     };
-    // Only here are words parted that `parse_line` has parted too: they may be long.
+    if let Problem::Name = problem {
+        return Err(of_another_name(rt, session, line)?.into());
+    }
+    Err(problem.into())
+}
+
+/// What stands after the name of a line that gives a counter. Of other lines no word is parted here: words may be long.
+fn after_counter(line: &[u8]) -> Option<&[u8]> {
+    if !line.trim_ascii_start().starts_with(b"counter") {
+        return None;
+    }
+    let (name, rest) = split_word(line);
+    if name == b"counter".as_slice() {
+        Some(rest)
+    } else {
+        None
+    }
+}
+
+/// A counter after a packet; octets may follow its sixteen.
+fn counter(rt: &HostRuntime, session: &Session, text: &[u8]) -> Result<Option<Line>, Stop> {
+    let (word, _) = split_word(text);
+    let octets = octets(rt.alloc(), word)?;
+    let first = octets.first_chunk::<16>();
+    let counter = first.ok_or(of_a_packet(session, Problem::Short))?;
+    Ok(Some(Line::Counter(*counter)))
+}
+
+/// What is wrong with a line of another name: two letters name a key, and any others what speaks of a packet.
+fn of_another_name(rt: &HostRuntime, session: &Session, line: &[u8]) -> Result<Problem, Stop> {
     let (name, rest) = split_word(line);
     let (word, _) = split_word(rest);
-    match problem {
-        Problem::Name if name.len() == 2 => {
-            let _key: [u8; 16] = fixed(rt.alloc(), word)?;
-            Err(Problem::Name.into())
-        }
-        Problem::Name => {
-            let _octets = octets(rt.alloc(), word)?;
-            Err(of_a_packet(session, Problem::Name).into())
-        }
-        Problem::Length if name == b"counter".as_slice() => {
-            let sixteen = word.get(..32).ok_or(of_a_packet(session, Problem::Short))?;
-            Ok(Some(Line::Counter(fixed(rt.alloc(), sixteen)?)))
-        }
-        problem => Err(problem.into()),
+    if name.len() == 2 {
+        let _key: [u8; 16] = fixed(rt.alloc(), word)?;
+        return Ok(Problem::Name);
     }
+    let _octets = octets(rt.alloc(), word)?;
+    Ok(of_a_packet(session, Problem::Name))
 }
 
 /// What is wrong with a line that speaks of a packet: first of all, that there is none.
