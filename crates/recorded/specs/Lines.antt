@@ -127,7 +127,11 @@ form_of name.Packet s = into packet (octets_of (word_of s))
 form_of name.Counter s = into counter (fixed_of 16 (word_of s))
 
 -- a name, and what follows it; an empty line and a remark hold nothing
+abbrev pub line_in : List ℕ → List ℕ → Result (Option LineView) Problem
+line_in name s =
+    cond (length name == 0 || slice_index name 0 == 35) (Ok None)
+    (into Some (and_then (name_of name) (λ n. form_of n s)))
+
+-- a whole line: its first word is its name
 abbrev pub line_of : List ℕ → Result (Option LineView) Problem
-line_of s =
-    cond (length (word_of s) == 0 || slice_index (word_of s) 0 == 35) (Ok None)
-    (into Some (and_then (name_of (word_of s)) (λ n. form_of n (rest_of s))))
+line_of s = line_in (word_of s) (rest_of s)

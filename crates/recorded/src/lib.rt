@@ -12,7 +12,7 @@ mod tests;
 mod words;
 
 pub use key::OwnKey;
-pub use line::{Derived, Handshake, Line, parse_line};
+pub use line::{Derived, Handshake, Line, parse_line, parse_named};
 pub use session::{Packet, Session};
 pub use tally::Tally;
 pub use words::{Problem, Stop, Suite, fixed, octets, part};

@@ -2,7 +2,8 @@
 ghost use Rattle.std.specs.Prelude.{◌≡◌};
 ghost use Rattle.std.specs.Option.{option_map};
 ghost use Rattle.text.specs.Reading.{Reads};
-ghost use Rattle.recorded.specs.Lines.{derived_of, handshake_of, single_name_of, name_of, key_view, key_in, of_end, line_view, form_of, line_of};
+ghost use Rattle.text.specs.Words.{word_of};
+ghost use Rattle.recorded.specs.Lines.{derived_of, handshake_of, single_name_of, name_of, key_view, key_in, of_end, line_view, form_of, line_in, line_of};
 
 use crate::key::OwnKey;
 use crate::words::{Problem, Stop, Suite, decimal, fixed, octets};
@@ -150,32 +151,39 @@ fn end_key(heap: Global, end: &[u8], sort: &[u8], word: &[u8]) -> Result<Line, S
     }
 }
 
+/// The first word of a text.
+fn word(text: &[u8]) -> &[u8]
+    ensures value { result.now ≡ word_of text.now }
+{
+    let (first, _) = split_word(text);
+    first
+}
+
 /// What follows the name of a line.
 fn form(heap: Global, name: Name, text: &[u8]) -> Result<Line, Stop>
     ensures value { Reads line_view result (form_of name text.now) }
 {
     let (first, rest) = split_word(text);
-    let (second, rest) = split_word(rest);
     match name {
         Name::Cipher => Ok(Line::Cipher(Suite::try_from(first)?)),
         Name::Identities => {
             let fob = fixed(heap, first)?;
-            let mixer = fixed(heap, second)?;
+            let mixer = fixed(heap, word(rest))?;
             Ok(Line::Identities(Identities { fob, mixer }))
         }
         Name::Nonces => {
             let fob = fixed(heap, first)?;
-            let mixer = fixed(heap, second)?;
+            let mixer = fixed(heap, word(rest))?;
             Ok(Line::Nonces(Nonces { fob, mixer }))
         }
         Name::Key => {
-            let (word, _) = split_word(rest);
-            end_key(heap, first, second, word)
+            let (sort, rest) = split_word(rest);
+            end_key(heap, first, sort, word(rest))
         }
         Name::Secret => Ok(Line::Secret(fixed(heap, first)?)),
         Name::Derived(which) => Ok(Line::Derived(which, fixed(heap, first)?)),
         Name::Message(which) => Ok(Line::Message(which, octets(heap, first)?)),
-        Name::Payload => Ok(Line::Payload(decimal(first)?, octets(heap, second)?)),
+        Name::Payload => Ok(Line::Payload(decimal(first)?, octets(heap, word(rest))?)),
         Name::Packet => Ok(Line::Packet(octets(heap, first)?)),
         Name::Counter => Ok(Line::Counter(fixed(heap, first)?)),
     }
@@ -186,6 +194,13 @@ pub fn parse_line(heap: Global, text: &[u8]) -> Result<Option<Line>, Stop>
     ensures value { Reads (option_map line_view) result (line_of text.now) }
 {
     let (name, rest) = split_word(text);
+    parse_named(heap, name, rest)
+}
+
+/// What a line of this name holds with what follows the name, if it holds something.
+pub fn parse_named(heap: Global, name: &[u8], rest: &[u8]) -> Result<Option<Line>, Stop>
+    ensures value { Reads (option_map line_view) result (line_in name.now rest.now) }
+{
     match name.first() {
         None | Some(b'#') => Ok(None),
         _ => Ok(Some(form(heap, Name::try_from(name)?, rest)?)),

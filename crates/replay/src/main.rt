@@ -2,7 +2,7 @@
 #![tactic(auto)]
 
 use anyhow::anyhow;
-use recorded::{Line, Problem, Session, Stop, Suite, Tally, fixed, octets, parse_line};
+use recorded::{Line, Problem, Session, Stop, Suite, Tally, fixed, octets, parse_named};
 use sessions::Comparison;
 use std::fs;
 use text::split_word;
@@ -70,29 +70,15 @@ fn compare(
 
 /// What a line holds. Of a line of another name the words are looked at first.
 fn read(rt: &HostRuntime, session: &Session, line: &[u8]) -> Result<Option<Line>, Stop> {
-    if let Some(rest) = after_counter(line) {
-        return counter(rt, session, rest);
-    }
-    let problem = match parse_line(rt.alloc(), line) {
-        Err(Stop::Unreadable(problem)) => problem,
-        read => return read,
-    };
-    if let Problem::Name = problem {
-        return Err(of_another_name(rt, session, line)?.into());
-    }
-    Err(problem.into())
-}
-
-/// What stands after the name of a line that gives a counter. Of other lines no word is parted here: words may be long.
-fn after_counter(line: &[u8]) -> Option<&[u8]> {
-    if !line.trim_ascii_start().starts_with(b"counter") {
-        return None;
-    }
     let (name, rest) = split_word(line);
     if name == b"counter".as_slice() {
-        Some(rest)
-    } else {
-        None
+        return counter(rt, session, rest);
+    }
+    match parse_named(rt.alloc(), name, rest) {
+        Err(Stop::Unreadable(Problem::Name)) => {
+            Err(of_another_name(rt, session, name, rest)?.into())
+        }
+        read => read,
     }
 }
 
@@ -106,8 +92,12 @@ fn counter(rt: &HostRuntime, session: &Session, text: &[u8]) -> Result<Option<Li
 }
 
 /// What is wrong with a line of another name: two letters name a key, and any others what speaks of a packet.
-fn of_another_name(rt: &HostRuntime, session: &Session, line: &[u8]) -> Result<Problem, Stop> {
-    let (name, rest) = split_word(line);
+fn of_another_name(
+    rt: &HostRuntime,
+    session: &Session,
+    name: &[u8],
+    rest: &[u8],
+) -> Result<Problem, Stop> {
     let (word, _) = split_word(rest);
     if name.len() == 2 {
         let _key: [u8; 16] = fixed(rt.alloc(), word)?;

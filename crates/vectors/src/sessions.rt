@@ -7,7 +7,7 @@ use ends::Role;
 use keyed::{Labels, Told};
 use message::PAYLOAD;
 use recorded::{
-    Derived, Handshake, Line, Problem, Session, Stop, Suite, Tally, octets, parse_line, part,
+    Derived, Handshake, Line, Problem, Session, Stop, Suite, Tally, octets, parse_named, part,
 };
 use speck::Speck;
 use std::fs;
@@ -55,11 +55,10 @@ impl Reading {
     fn line(&mut self, rt: &HostRuntime, line: &[u8], tally: &mut Tally) -> anyhow::Result<()> {
         let (name, rest) = split_word(line);
         match name {
-            [] | [b'#', ..] => {}
             b"cipher" => self.begin(rest),
             b"payload" => self.payload = payload_in(rt, rest)?,
             b"counter" if self.counter.is_none() => return self.end_packet(rt, false, tally),
-            _ => match parse_line(rt.alloc(), line) {
+            _ => match parse_named(rt.alloc(), name, rest) {
                 Ok(Some(line)) => return self.compare(rt, line, tally),
                 Ok(None) | Err(Stop::Unreadable(Problem::Name)) => {}
                 Err(stop) => return Err(told(stop)),
